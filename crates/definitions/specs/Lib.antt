@@ -1,0 +1,4 @@
+pub mod Bounded
+pub mod Sets
+pub mod Words
+pub mod Check
