@@ -1,0 +1,3 @@
+//! Cases made for tests and comparisons.
+
+pub mod k;
