@@ -1,25 +1,25 @@
 -- The laws of sets of names: the digits of a word, what tests over a set say of its members, and a set's members in order. Assumes nothing.
 use mathlib.Core.Path.{_≡_, refl, sym, ap, ap₂, _∙_, subst}
 use mathlib.Core.Bool.{Bool, true, false, not}
-use mathlib.Core.List.{List, [], _∷_, _++_, append-nil}
-use mathlib.Core.Logic.{_↔_, _⊎_, inl, inr, ⊎-elim}
+use mathlib.Core.List.{List, _∷_, _++_, append-nil}
+use mathlib.Core.Logic.{_↔_, _⊎_, inl, inr}
 use mathlib.Core.Option.{Option, none, some}
 use Prim.Native.Nat.{ℕ, zero, suc, _+_, _-_, _*_, _/_, _%_, _^_, _≤_, _<_, min, max}
-use native.Mathlib.Nat.{le-refl, le-of-suc-le-suc, not-suc-le-zero, zero-lt-suc, lt-trans, lt-of-le-of-lt, lt-of-lt-of-le, min-le-left, mod-lt, mod-eq-of-lt, div-one, zero-div, one-mul, pow-suc, eq-zero-or-pos}
+use native.Mathlib.Nat.{le-refl, mul-one, add-assoc, le-trans, le-add-right, le-of-suc-le-suc, not-suc-le-zero, zero-lt-suc, lt-trans, lt-of-le-of-lt, min-le-left, mod-lt, mod-eq-of-lt, div-one, zero-div, one-mul, pow-suc}
 use native.Mathlib.Numerals.{one-add, add-one}
 use native.Mathlib.Omega.{arith}
-use native.Mathlib.Decide.{ℕ-discrete, decLt}
-use borrow.Author.Tests.{eq-eqb, ne-eqb}
-use lib.Dec.{T, eqb, eqb→eq, eqb-refl, lit<, eqb·zero-suc, eqb·suc-zero, eqb·suc-suc}
+use native.Mathlib.Decide.{decLt, le-ind}
+use borrow.Author.Tests.{eq-eqb}
+use lib.Dec.{T, T-not, not-T, eqb, eqb→eq, lit<, leb·zero, leb·suc-zero, leb·suc-suc, eqb·zero-suc, eqb·suc-zero, eqb·suc-suc}
 use lib.Arith.{digits-mod, lt-one}
-use lib.Pow.{shr-shr, pow-lt}
-use lib.Bits.{bitAnd, bitOr, and-step, and-shr, and-le-l, and-lt, or-step, or-shr}
+use lib.Pow.{shr-shr, pow-lt, pow-pos}
+use lib.Bits.{bitAnd, bitOr, and-step, and-shr, and-le-l, or-step, or-shr, shifted-half, shifted-even}
 use lib.Count.{trailingZeros, under, ones, ones-step}
 use lib.ListN.{length, getD, length-append, List·getD-append}
-use lib.Seq.{getD-append-add}
-use Rattle.definitions.specs.Bounded.{_and_, _or_, _is_, _upto_, allBelow, anyBelow, firstBelow, faultIf}
-use Rattle.definitions.specs.Sets.{has, forEach, forSome, within, meets, lowest, membersBelow, members, sizeBelow, size}
-use Rattle.definitions.proofs.Bounded.{and-iff, is-iff, upto-iff, all-iff, any-iff, true-of, of-true, false-of, not-false, same-test, fault-none, none-fault, each-none, none-each, first-stop, first-found}
+use lib.Seq.{getD-at}
+use Rattle.definitions.specs.Bounded.{_and_, _or_, _is_, _upto_, faultIf}
+use Rattle.definitions.specs.Sets.{has, forEach, forSome, within, meets, lowest, membersBelow, sizeBelow}
+use Rattle.definitions.proofs.Bounded.{decide, and-iff, upto-iff, all-iff, any-iff, true-of, of-true, false-of, not-false, same-test, fault-none, none-fault, each-none, none-each, first-stop, first-found}
 
 two-pos : 0 < 2
 two-pos = lit< tt
@@ -58,6 +58,16 @@ and-odd : (x y : ℕ) → bitAnd x y % 2 ≡ min (x % 2) (y % 2)
 and-odd x y =
     ap (λ (z : ℕ). z % 2) (and-step x y)
     ∙ digits-mod (bitAnd (x / 2) (y / 2)) (lt-of-le-of-lt (min-le-left (x % 2) (y % 2)) (mod-lt x two-pos))
+
+and-true : (b : Bool) → (b and true) ≡ b
+unfolding _and_
+and-true true = refl
+and-true false = refl
+
+and-false : (b : Bool) → (b and false) ≡ false
+unfolding _and_
+and-false true = refl
+and-false false = refl
 
 -- ---- `has`: digit 0, and the digits above it; the empty set
 
@@ -239,3 +249,283 @@ within-refl a = within-iff a a .1 (λ n l t. t)
 
 pub within-trans : (a b c : ℕ) → T (within a b) → T (within b c) → T (within a c)
 within-trans a b c p q = within-iff a c .1 (λ n l t. within-iff b c .0 q n l (within-iff a b .0 p n l t))
+
+-- ---- the lowest member that passes a test
+
+-- n is the lowest member of s that passes p
+pub record IsLowest (s : ℕ) (p : ℕ → Bool) (n : ℕ) : Type 0 where
+  pub below : n < 64
+  pub member : T (has s n)
+  pub passes : T (p n)
+  pub least : (i : ℕ) → i < n → T (has s i) → T (p i) → ⊥
+
+fault-some : (b : Bool) (m n : ℕ) → faultIf b m ≡ some n → T b × (m ≡ n)
+fault-some true m n e = (tt, cc)
+fault-some false m n e = let z : _≡_ {A = ℕ} 0 1 = cc in absurd (omega arith)
+
+module _ (s : ℕ) (p : ℕ → Bool) where
+  test : ℕ → Option ℕ
+  test n = faultIf (has s n and p n) n
+
+  pub lowest-none : lowest s p ≡ none → (n : ℕ) → n < 64 → T (has s n) → T (p n) → ⊥
+  unfolding lowest test
+  lowest-none e n l t u = fault-none (has s n and p n) n (none-each test 64 e n l) (and-iff (has s n) (p n) .1 (t, u))
+
+  pub none-lowest : ((n : ℕ) → n < 64 → T (has s n) → T (p n) → ⊥) → lowest s p ≡ none
+  unfolding lowest test
+  none-lowest f =
+      each-none test 64 (λ n l. none-fault (has s n and p n) n (λ t. let x = and-iff (has s n) (p n) .0 t in f n l (x .0) (x .1)))
+
+  pub lowest-is : (n : ℕ) → lowest s p ≡ some n → IsLowest s p n
+  unfolding lowest test
+  lowest-is n e =
+      let x = first-found test 64 n e in
+      let y = fault-some (has s (x .0) and p (x .0)) (x .0) n (x .2) in
+      let z = and-iff (has s (x .0)) (p (x .0)) .0 (y .0) in
+      subst (λ (m : ℕ). IsLowest s p m) (y .1)
+      (record {
+        below = x .1;
+        member = z .0;
+        passes = z .1;
+        least = λ i l t u. fault-none (has s i and p i) i (none-each test (x .0) (x .3) i l) (and-iff (has s i) (p i) .1 (t, u));
+      })
+
+  pub is-lowest : (n : ℕ) → IsLowest s p n → lowest s p ≡ some n
+  unfolding lowest test
+  is-lowest n x =
+      first-stop test 64 (x .below)
+      (each-none test n (λ i l. none-fault (has s i and p i) i (λ t. let y = and-iff (has s i) (p i) .0 t in x .least i l (y .0) (y .1))))
+      (ap (λ (b : Bool). faultIf b n) (true-of (has s n and p n) (and-iff (has s n) (p n) .1 (x .member, x .passes))))
+
+-- from k on the next member is m: none stands between
+pub next-gap : (s k m : ℕ) → lowest s (λ n. k upto n) ≡ some m → (j : ℕ) → k ≤ j → j < m → has s j ≡ false
+next-gap s k m e j l h =
+    false-of (has s j) (λ t. lowest-is s (λ n. k upto n) m e .least j h t (upto-iff k j .1 l))
+
+-- from k on there is no member
+pub next-end : (s k : ℕ) → lowest s (λ n. k upto n) ≡ none → (j : ℕ) → k ≤ j → j < 64 → has s j ≡ false
+next-end s k e j l h = false-of (has s j) (λ t. lowest-none s (λ n. k upto n) e j h t (upto-iff k j .1 l))
+
+-- ---- members in order, and how many
+
+module _ (s : ℕ) where
+  pub members-in : (n : ℕ) → T (has s n) → membersBelow (n + 1) s ≡ membersBelow n s ++ (n ∷ [])
+  unfolding membersBelow
+  members-in n t =
+      ap (λ (m : ℕ). membersBelow m s) (add-one n)
+      ∙ ap (λ (b : Bool). membersBelow n s ++ elim b [ true ↦ n ∷ [] | false ↦ [] ]) (true-of (has s n) t)
+
+  pub members-out : (n : ℕ) → has s n ≡ false → membersBelow (n + 1) s ≡ membersBelow n s
+  unfolding membersBelow
+  members-out n e =
+      ap (λ (m : ℕ). membersBelow m s) (add-one n)
+      ∙ ap (λ (b : Bool). membersBelow n s ++ elim b [ true ↦ n ∷ [] | false ↦ [] ]) e ∙ append-nil (membersBelow n s)
+
+  pub size-in : (n : ℕ) → T (has s n) → sizeBelow (n + 1) s ≡ sizeBelow n s + 1
+  unfolding sizeBelow
+  size-in n t =
+      ap (λ (m : ℕ). sizeBelow m s) (add-one n)
+      ∙ ap (λ (b : Bool). sizeBelow n s + elim b [ true ↦ 1 | false ↦ 0 ]) (true-of (has s n) t)
+
+  pub size-out : (n : ℕ) → has s n ≡ false → sizeBelow (n + 1) s ≡ sizeBelow n s
+  unfolding sizeBelow
+  size-out n e =
+      ap (λ (m : ℕ). sizeBelow m s) (add-one n)
+      ∙ ap (λ (b : Bool). sizeBelow n s + elim b [ true ↦ 1 | false ↦ 0 ]) e ∙ (let z : sizeBelow n s + 0 ≡ sizeBelow n s = omega arith in z)
+
+  -- where no member stands from k to m
+  pub members-skip : (k m : ℕ) → k ≤ m → ((j : ℕ) → k ≤ j → j < m → has s j ≡ false) → membersBelow m s ≡ membersBelow k s
+  members-skip k m l f = le-ind (λ (n : ℕ). n ≤ m → membersBelow n s ≡ membersBelow k s) (λ _. refl)
+      (λ n h rest g. ap (λ (i : ℕ). membersBelow i s) (sym (add-one n)) ∙ members-out n (f n h g) ∙ rest (omega arith)) m l (le-refl m)
+
+  pub length-members : (n : ℕ) → length (membersBelow n s) ≡ sizeBelow n s
+  unfolding membersBelow sizeBelow
+  length-members zero = refl
+  length-members (suc n) =
+      length-append (membersBelow n s) (elim (has s n) [ true ↦ n ∷ [] | false ↦ [] ]) ∙ ap₂ _+_ (length-members n) (one (has s n))
+    where
+      one : (b : Bool) → length {A = ℕ} (elim b [ true ↦ n ∷ [] | false ↦ [] ]) ≡ elim b [ true ↦ 1 | false ↦ 0 ]
+      one true = refl
+      one false = refl
+
+  pub size-mono : (k m : ℕ) → k ≤ m → sizeBelow k s ≤ sizeBelow m s
+  unfolding sizeBelow
+  size-mono k m l = le-ind (λ (n : ℕ). sizeBelow k s ≤ sizeBelow n s) (le-refl (sizeBelow k s)) (λ n h rest. le-trans rest (le-add-right (sizeBelow n s) (elim (has s n) [ true ↦ 1 | false ↦ 0 ]))) m l
+
+  -- a member stands at the place that counts the members below it
+  pub member-at : (n m : ℕ) → m < n → T (has s m) → (sizeBelow m s < sizeBelow n s) × (getD (membersBelow n s) (sizeBelow m s) 0 ≡ m)
+  unfolding membersBelow
+  member-at n m l t =
+      let up : sizeBelow (m + 1) s ≤ sizeBelow n s = size-mono (m + 1) n (omega arith) in
+      (omega (arith, size-in m t), rest n l)
+    where
+      here : getD (membersBelow (suc m) s) (sizeBelow m s) 0 ≡ m
+      here =
+          ap (λ (x : List ℕ). getD x (sizeBelow m s) 0) (ap (λ (i : ℕ). membersBelow i s) (sym (add-one m)) ∙ members-in m t)
+          ∙ getD-at (membersBelow m s) m [] 0 (sizeBelow m s) (length-members m)
+
+      rest : (k : ℕ) → m < k → getD (membersBelow k s) (sizeBelow m s) 0 ≡ m
+      rest k h = le-ind (λ (i : ℕ). getD (membersBelow i s) (sizeBelow m s) 0 ≡ m) here
+          (λ i g e. List·getD-append (membersBelow i s) (elim (has s i) [ true ↦ i ∷ [] | false ↦ [] ]) 0 (sizeBelow m s)
+          (let up : sizeBelow (m + 1) s ≤ sizeBelow i s = size-mono (m + 1) i (omega arith) in omega (arith, size-in m t, length-members i)) ∙ e) k h
+
+  -- what stands at place i of the members below n: a member, with i members below it
+  pub at-member : (n i : ℕ) → i < sizeBelow n s
+      → (m : ℕ) × (m < n) × T (has s m) × (sizeBelow m s ≡ i) × (getD (membersBelow n s) i 0 ≡ m)
+  unfolding sizeBelow
+  at-member zero i l = absurd (not-suc-le-zero l)
+  at-member (suc n) i l = pick (decide (has s n)) (at-member n i)
+    where
+      Found : ℕ → Type 0
+      Found k = (m : ℕ) × (m < k) × T (has s m) × (sizeBelow m s ≡ i) × (getD (membersBelow k s) i 0 ≡ m)
+
+      whole : (m : ℕ) → m < suc n → T (has s m) → sizeBelow m s ≡ i → Found (suc n)
+      whole m h t e = (m, h, t, e, ap (λ (k : ℕ). getD (membersBelow (suc n) s) k 0) (sym e) ∙ member-at (suc n) m h t .1)
+
+      old : Found n → Found (suc n)
+      old x = whole (x .0) (let h = x .1 in omega arith) (x .2) (x .3)
+
+      pick : T (has s n) ⊎ (T (has s n) → ⊥) → (i < sizeBelow n s → Found n) → Found (suc n)
+      pick (inl t) f = last (decLt i (sizeBelow n s))
+        where
+          last : Dec (i < sizeBelow n s) → Found (suc n)
+          last (yes h) = old (f h)
+          last (no h) = whole n (le-refl (suc n)) t (omega (arith, size-in n t, ap (λ (k : ℕ). sizeBelow k s) (add-one n)))
+      pick (inr u) f =
+          old (f (omega (arith, size-out n (false-of (has s n) u), ap (λ (k : ℕ). sizeBelow k s) (add-one n))))
+
+  size-lt : (x y : ℕ) → sizeBelow x s < sizeBelow y s → x < y
+  size-lt x y h = pick (decLt x y)
+    where
+      pick : Dec (x < y) → x < y
+      pick (yes l) = l
+      pick (no f) = absurd (omega (arith, size-mono y x (omega arith)))
+
+  -- members ascend
+  pub ascending : (n i j : ℕ) → i < j → j < sizeBelow n s → getD (membersBelow n s) i 0 < getD (membersBelow n s) j 0
+  ascending n i j l h =
+      let x = at-member n i (lt-trans l h) in
+      let y = at-member n j h in
+      let z : x .0 < y .0 = size-lt (x .0) (y .0) (omega (arith, x .3, y .3)) in
+      omega (arith, x .4, y .4)
+
+-- ---- how many digits are set
+
+size-low : (k s : ℕ) → sizeBelow (suc k) s ≡ s % 2 + sizeBelow k (s / 2)
+unfolding sizeBelow
+size-low zero s =
+    ap (λ (b : Bool). 0 + elim b [ true ↦ 1 | false ↦ 0 ]) (has-zero s) ∙ digit (s % 2) (mod-lt s two-pos)
+  where
+    digit : (d : ℕ) → d < 2 → 0 + elim (eqb d 1) [ true ↦ 1 | false ↦ 0 ] ≡ d + 0
+    digit zero h = refl
+    digit (suc zero) h = refl
+    digit (suc (suc d)) h = absurd (omega arith)
+size-low (suc k) s =
+    ap₂ _+_ (size-low k s) (ap (λ (b : Bool). elim b [ true ↦ 1 | false ↦ 0 ]) (has-suc s k))
+    ∙ add-assoc (s % 2) (sizeBelow k (s / 2)) (elim (has (s / 2) k) [ true ↦ 1 | false ↦ 0 ])
+
+pub size-ones : (k s : ℕ) → s < 2 ^ k → sizeBelow k s ≡ ones s
+unfolding sizeBelow ones
+size-ones zero s h = ap ones (sym (lt-one h))
+size-ones (suc k) s h =
+    let e : 2 ^ suc k ≡ 2 ^ k * 2 = pow-suc 2 k in
+    size-low k s ∙ ap (λ (n : ℕ). s % 2 + n) (size-ones k (s / 2) (omega arith)) ∙ sym (ones-step s)
+
+-- ---- a word of the machine whose digits are a test's answers
+
+-- no digit is set
+pub no-member : (k d : ℕ) → d < 2 ^ k → ((n : ℕ) → n < k → has d n ≡ false) → d ≡ 0
+no-member k d h f = same-set k d 0 h (pow-pos k) (λ n l. f n l ∙ sym (has-none n))
+
+pub has-minus : (a b n : ℕ) → b < 2 ^ 64 → n < 64 → has (bitAnd a (2 ^ 64 - 1 - b)) n ≡ (has a n and not (has b n))
+has-minus a b n h l = has-and a (2 ^ 64 - 1 - b) n ∙ ap (λ (t : Bool). has a n and t) (has-not 64 b n h l)
+
+-- the digits from k on
+pub has-from : (k s n : ℕ) → has (s / 2 ^ k * 2 ^ k) n ≡ (has s n and k upto n)
+unfolding _upto_
+has-from zero s n =
+    ap (λ (x : ℕ). has x n) (mul-one (s / 1) ∙ div-one s) ∙ sym (ap (λ (b : Bool). has s n and b) (leb·zero n) ∙ and-true (has s n))
+has-from (suc k) s zero =
+    has-zero (s / 2 ^ suc k * 2 ^ suc k) ∙ ap (λ (d : ℕ). eqb d 1) (shifted-even (s / 2 ^ suc k) k)
+    ∙ sym (ap (λ (b : Bool). has s 0 and b) (leb·suc-zero k) ∙ and-false (has s 0))
+has-from (suc k) s (suc n) =
+    let e : s / 2 ^ suc k ≡ s / 2 / 2 ^ k = ap (λ (m : ℕ). s / 2 ^ m) (sym (one-add k)) ∙ sym (shr-shr s 1 k) in
+    has-suc (s / 2 ^ suc k * 2 ^ suc k) n
+    ∙ ap (λ (x : ℕ). has x n) (shifted-half (s / 2 ^ suc k) k ∙ ap (λ (x : ℕ). x * 2 ^ k) e) ∙ has-from k (s / 2) n
+    ∙ ap₂ _and_ (sym (has-suc s n)) (sym (leb·suc-suc k n))
+
+module _ (d s : ℕ) (p : ℕ → Bool) (same : (n : ℕ) → n < 64 → has d n ≡ (has s n and p n)) where
+  pub lowest-empty : d ≡ 0 → lowest s p ≡ none
+  lowest-empty e =
+      none-lowest s p
+      (λ n l t u. not-false (sym (same n l) ∙ ap (λ (x : ℕ). has x n) e ∙ has-none n) (and-iff (has s n) (p n) .1 (t, u)))
+
+  pub lowest-word : d < 2 ^ 64 → (d ≡ 0 → ⊥) → lowest s p ≡ some (trailingZeros 64 d)
+  lowest-word h z =
+      let low = low-set 64 d (omega arith) h in
+      let n = trailingZeros 64 d in
+      let both = and-iff (has s n) (p n) .0 (of-true (sym (same n (low .0)) ∙ low .1)) in
+      is-lowest s p n
+      (record {
+        below = low .0;
+        member = both .0;
+        passes = both .1;
+        least = λ i l t u. not-false (sym (same i (lt-trans l (low .0))) ∙ low-clear 64 d i l) (and-iff (has s i) (p i) .1 (t, u));
+      })
+
+-- `a & !b == 0`, `a & b != 0`
+pub within-word : (a b : ℕ) → a < 2 ^ 64 → b < 2 ^ 64 → eqb (bitAnd a (2 ^ 64 - 1 - b)) 0 ≡ within a b
+unfolding _and_
+within-word a b h k = same-test (eqb d 0) (within a b) to from
+  where
+    d : ℕ
+    d = bitAnd a (2 ^ 64 - 1 - b)
+
+    held : (x y : Bool) → (x and not y) ≡ false → T x → T y
+    held true true e t = tt
+    held true false e t = of-true (sym e)
+    held false y e t = absurd t
+
+    gone : (x y : Bool) → (T x → T y) → (x and not y) ≡ false
+    gone true true f = refl
+    gone true false f = absurd (f tt)
+    gone false y f = refl
+
+    to : T (eqb d 0) → T (within a b)
+    to t =
+        within-iff a b .1
+        (λ n l u. held (has a n) (has b n) (sym (has-minus a b n k l) ∙ ap (λ (x : ℕ). has x n) (eqb→eq d 0 t) ∙ has-none n) u)
+
+    from : T (within a b) → T (eqb d 0)
+    from t =
+        of-true
+        (eq-eqb d 0
+        (no-member 64 d (lt-of-le-of-lt (and-le-l a (2 ^ 64 - 1 - b)) h)
+        (λ n l. has-minus a b n k l ∙ gone (has a n) (has b n) (within-iff a b .0 t n l))))
+
+pub meets-word : (a b : ℕ) → a < 2 ^ 64 → not (eqb (bitAnd a b) 0) ≡ meets a b
+meets-word a b h = same-test (not (eqb d 0)) (meets a b) to from
+  where
+    d : ℕ
+    d = bitAnd a b
+
+    to : T (not (eqb d 0)) → T (meets a b)
+    to t =
+        let z : d ≡ 0 → ⊥ = λ e. T-not (eqb d 0) t (of-true (eq-eqb d 0 e)) in
+        let n = trailingZeros 64 d in
+        let low = low-set 64 d (omega arith) (lt-of-le-of-lt (and-le-l a b) h) in
+        let both = and-iff (has a n) (has b n) .0 (of-true (sym (has-and a b n) ∙ low .1)) in
+        meets-iff a b .1 (n, low .0, both .0, both .1)
+
+    from : T (meets a b) → T (not (eqb d 0))
+    from t =
+        let x = meets-iff a b .0 t in
+        not-T (eqb d 0)
+        (λ u. not-false (sym (has-and a b (x .0)) ∙ ap (λ (y : ℕ). has y (x .0)) (eqb→eq d 0 u) ∙ has-none (x .0))
+        (and-iff (has a (x .0)) (has b (x .0)) .1 (x .2, x .3)))
+
+-- `s | (1 << n)`
+pub has-with : (s n m : ℕ) → n < 64 → has (bitOr s ((1 * 2 ^ n) % 2 ^ 64)) m ≡ (has s m or n is m)
+has-with s n m l =
+    ap (λ (x : ℕ). has (bitOr s x) m) (ap (λ (x : ℕ). x % 2 ^ 64) (one-mul (2 ^ n)) ∙ mod-eq-of-lt (pow-lt l))
+    ∙ has-or s (2 ^ n) m ∙ ap (λ (b : Bool). has s m or b) (has-one n m)
