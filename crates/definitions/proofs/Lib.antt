@@ -1,3 +1,6 @@
 pub mod Bounded
 pub mod Sets
 pub mod Starred
+pub mod Slots
+pub mod Arrays
+pub mod Valid
