@@ -12,12 +12,14 @@ pub mod cases;
 pub mod clauses;
 pub mod estimate;
 pub mod least;
+pub mod listing;
 pub mod model;
 pub mod names;
 pub mod refusal;
 pub mod shape;
 pub mod state;
 pub mod step;
+pub mod text;
 pub mod write;
 
 pub use calls::{ShutOff, Verdict};

@@ -23,8 +23,8 @@ impl Draft {
     /// The draft that says what a model says.
     pub fn of(model: &Model) -> Draft {
         let boxes = model.boxes().iter();
-        let boxes = boxes
-            .map(|def| DraftBox { sites: def.sites().to_vec(), lines: def.lines().to_vec() });
+        let boxes =
+            boxes.map(|def| DraftBox { sites: def.sites().to_vec(), lines: def.lines().to_vec() });
         Draft { kinds: model.kinds().to_vec(), boxes: boxes.collect() }
     }
 

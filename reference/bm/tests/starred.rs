@@ -46,7 +46,10 @@ fn missing_names() {
     assert_eq!(missing(&short(|e| drop_rho(e, Y, Z))), "clause 5 0 1 1");
     assert_eq!(missing(&short(|e| drop_rho(e, Y, V))), "clause 6 0 1 4");
     assert_eq!(missing(&short(|e| drop_rho(e, V, V))), "clause 1 0 4 4");
-    assert_eq!(missing(&short(|e| e.boxes[1].eps[U.index()] = bm::NameSet::EMPTY)), "clause 2 1 0 5");
+    assert_eq!(
+        missing(&short(|e| e.boxes[1].eps[U.index()] = bm::NameSet::EMPTY)),
+        "clause 2 1 0 5"
+    );
     assert_eq!(missing(&short(|e| e.boxes[1].shown = bm::NameSet::EMPTY)), "clause 2 1 0 3");
 }
 
@@ -164,7 +167,8 @@ fn run_answers_each_move() {
     let model = k::model().image();
     let mut words = vec![0; STATE_WORDS];
     calls::start(&model, &mut words).unwrap();
-    let moves = [[2, 0, 1, 0, 0], [2, 0, 0, 0, 0], [9, 0, 0, 1, 0], [9, 0, 0, 1, 0], [1, 1, 0, 0, 0]];
+    let moves =
+        [[2, 0, 1, 0, 0], [2, 0, 0, 0, 0], [9, 0, 0, 1, 0], [9, 0, 0, 1, 0], [1, 1, 0, 0, 0]];
     let moves = moves.map(Move::new);
     let mut answers = [99; 5];
     calls::run(&model, &mut words, &moves, &mut answers).unwrap();

@@ -1,0 +1,155 @@
+//! The command line: what it prints, its statuses and its files.
+
+mod common;
+
+use std::fs;
+use std::path::Path;
+
+use common::{fresh_folder, output, printed};
+
+const K: &str = "\
+free x z
+received y
+free u v c
+box
+  site x {c}
+  x(y).0 | x<z>.0
+box
+  site u {c}
+  u<v>.0
+";
+
+/// A folder with K as `m` and its least estimate as `e`.
+fn with_k(name: &str) -> std::path::PathBuf {
+    let folder = fresh_folder(name);
+    fs::write(folder.join("k.txt"), K).unwrap();
+    printed(&folder, &["asm", "k.txt", "m"]);
+    printed(&folder, &["least", "m", "e"]);
+    folder
+}
+
+fn write_moves(folder: &Path, moves: &str) {
+    fs::write(folder.join("moves"), moves).unwrap();
+}
+
+#[test]
+fn check_and_missing_files() {
+    let folder = with_k("check");
+    assert_eq!(printed(&folder, &["check", "m", "e"]), "accepted\n");
+    assert_eq!(printed(&folder, &["check", "none", "e"]), "refused model 1 0 0\n");
+    assert_eq!(printed(&folder, &["check", "m", "none"]), "refused estimate 1 0 0\n");
+    assert_eq!(printed(&folder, &["read", "none"]), "refused model 1 0 0\n");
+    assert_eq!(printed(&folder, &["read-estimate", "m", "none"]), "refused estimate 1 0 0\n");
+}
+
+#[test]
+fn missing_name_is_the_fourth_number() {
+    let folder = with_k("missing");
+    let text = format!(
+        "{K}estimate rho x {{x}} rho z {{z}} rho u {{u}} rho v {{v}} rho c {{c}}
+        rho y {{v}} box 0 shown {{x}} eps x {{c}} kap x {{z}}
+        box 1 shown {{u}} eps u {{c}} kap u {{v}}"
+    );
+    fs::write(folder.join("k.txt"), text).unwrap();
+    printed(&folder, &["asm", "k.txt", "m", "e"]);
+    assert_eq!(printed(&folder, &["check", "m", "e"]), "clause 5 0 1\n");
+    assert_eq!(printed(&folder, &["check", "m", "e", "--missing"]), "clause 5 0 1 1\n");
+    assert_eq!(printed(&folder, &["shut-off", "m", "e", "9"]), "clause 5 0 1\n");
+    assert_eq!(printed(&folder, &["shut-off", "m", "e", "9", "--missing"]), "clause 5 0 1 1\n");
+}
+
+#[test]
+fn shut_off_answers() {
+    let folder = with_k("shut-off");
+    assert_eq!(printed(&folder, &["shut-off", "m", "e", "0"]), "no\n");
+    assert_eq!(printed(&folder, &["shut-off", "m", "e", "2"]), "refused 12 0 0\n");
+    assert_eq!(output(&folder, &["shut-off", "m", "e", "x"]).status.code(), Some(2));
+}
+
+#[test]
+fn refused_block_places() {
+    let folder = with_k("refused-block");
+    assert_eq!(printed(&folder, &["refused-block", "m", "e"]), "model 0 0\n");
+    let mut bytes = fs::read(folder.join("e")).unwrap();
+    bytes[1024] ^= 1;
+    fs::write(folder.join("bad"), &bytes).unwrap();
+    assert_eq!(printed(&folder, &["refused-block", "m", "bad"]), "estimate 1024 512\n");
+    assert_eq!(printed(&folder, &["refused-block", "bad", "m"]), "model 0 512\n");
+}
+
+#[test]
+fn run_goes_on_from_its_own_words() {
+    let folder = with_k("run");
+    write_moves(&folder, "2 0 0 0 0\n\n9 0 0 1 0\n");
+    assert_eq!(printed(&folder, &["run", "m", "moves", "--state", "all"]), "0\n0\n");
+    write_moves(&folder, "2 0 0 0 0\n");
+    assert_eq!(printed(&folder, &["run", "m", "moves", "--state", "one"]), "0\n");
+    write_moves(&folder, "9 0 0 1 0\n");
+    let args = ["run", "m", "moves", "--from", "one", "--state", "two"];
+    assert_eq!(printed(&folder, &args), "0\n");
+    let words = fs::read(folder.join("two")).unwrap();
+    assert_eq!(words.len(), 4 * 9_112);
+    assert_eq!(words, fs::read(folder.join("all")).unwrap());
+    assert_ne!(words, fs::read(folder.join("one")).unwrap());
+}
+
+#[test]
+fn refused_runs_write_nothing() {
+    let folder = with_k("refused-run");
+    write_moves(&folder, "1 0 0 0 0\n");
+    for (bytes, line) in [
+        (vec![0; 4 * 9_111], "refused 10 0 0\n"),
+        (vec![0; 4 * 9_112 + 1], "refused 10 0 0\n"),
+        (vec![0; 4 * 9_112 - 1], "refused 10 0 0\n"),
+        (vec![1; 4 * 9_112], "refused 11 0 0\n"),
+    ] {
+        fs::write(folder.join("from"), bytes).unwrap();
+        let args = ["run", "m", "moves", "--from", "from", "--state", "to"];
+        assert_eq!(printed(&folder, &args), line);
+        assert!(!folder.join("to").exists());
+    }
+    let args = ["run", "none", "moves", "--state", "to"];
+    assert_eq!(printed(&folder, &args), "refused model 1 0 0\n");
+    assert!(!folder.join("to").exists());
+}
+
+#[test]
+fn statuses() {
+    let folder = with_k("statuses");
+    let status = |args: &[&str]| output(&folder, args).status.code();
+    assert_eq!(status(&["help"]), Some(0));
+    assert_eq!(status(&[]), Some(2));
+    assert_eq!(status(&["check", "m"]), Some(2));
+    assert_eq!(status(&["run", "m", "moves", "--state"]), Some(2));
+    assert_eq!(status(&["run", "m", "none"]), Some(1));
+    write_moves(&folder, "1 2 3 4\n");
+    assert_eq!(status(&["run", "m", "moves"]), Some(1));
+    assert_eq!(status(&["asm", "k.txt", "m2", "e2"]), Some(1));
+    assert!(!folder.join("m2").exists());
+    assert_eq!(status(&["dis", "none"]), Some(1));
+}
+
+#[test]
+fn text_errors_say_line_and_column() {
+    let folder = with_k("errors");
+    fs::write(folder.join("bad.txt"), "free x c\nbox\n  site x {c}\n  x<q>.0\n").unwrap();
+    let output = output(&folder, &["asm", "bad.txt", "bad"]);
+    let told = String::from_utf8(output.stderr).unwrap();
+    let expected = "line 4, column 5: expected a declared name, found the name 'q'";
+    assert_eq!(told, format!("bm-ref: bad.txt: {expected}\n"));
+    assert!(!folder.join("bad").exists());
+}
+
+#[test]
+fn listing_of_an_estimate() {
+    let folder = with_k("listing");
+    let listing = printed(&folder, &["read-estimate", "m", "e"]);
+    let lines: Vec<&str> = listing.lines().collect();
+    assert_eq!(lines.len(), 6 + 2 * (2 + 6 + 6));
+    assert_eq!(lines[2], "rho 2 {1,4}");
+    assert_eq!(lines[6], "shown 0 {0}");
+    assert_eq!(lines[8], "eps 0 0 {5}");
+    assert_eq!(lines[14], "kap 0 0 {1}");
+    let listing = printed(&folder, &["read", "m"]);
+    assert!(listing.contains("site 1 0 3 0 {5}\nline 1 0 4 3 4 1 0 {}\nline 1 1 0 0 0 0 0 {}\n"));
+}
