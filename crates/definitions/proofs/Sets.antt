@@ -5,7 +5,7 @@ use mathlib.Core.List.{List, [], _∷_, _++_, append-nil}
 use mathlib.Core.Logic.{_↔_, _⊎_, inl, inr}
 use mathlib.Core.Option.{Option, none, some}
 use Prim.Native.Nat.{ℕ, zero, suc, _+_, _-_, _*_, _/_, _%_, _^_, _≤_, _<_, min, max}
-use native.Mathlib.Nat.{le-refl, mul-one, add-assoc, le-trans, le-add-right, le-of-suc-le-suc, not-suc-le-zero, zero-lt-suc, lt-trans, lt-of-le-of-lt, min-le-left, mod-lt, mod-eq-of-lt, div-one, zero-div, one-mul, pow-suc}
+use native.Mathlib.Nat.{le-refl, div-mul-le-self, mul-one, add-assoc, le-trans, le-add-right, le-of-suc-le-suc, not-suc-le-zero, zero-lt-suc, lt-trans, lt-of-le-of-lt, min-le-left, mod-lt, mod-eq-of-lt, div-one, zero-div, one-mul, pow-suc}
 use native.Mathlib.Numerals.{one-add, add-one}
 use native.Mathlib.Omega.{arith}
 use native.Mathlib.Decide.{decLt, le-ind}
@@ -13,12 +13,12 @@ use borrow.Author.Tests.{eq-eqb}
 use lib.Dec.{T, T-not, not-T, eqb, eqb→eq, lit<, leb·zero, leb·suc-zero, leb·suc-suc, eqb·zero-suc, eqb·suc-zero, eqb·suc-suc}
 use lib.Arith.{digits-mod, lt-one}
 use lib.Pow.{shr-shr, pow-lt, pow-pos}
-use lib.Bits.{bitAnd, bitOr, and-step, and-shr, and-le-l, or-step, or-shr, shifted-half, shifted-even}
+use lib.Bits.{bitAnd, bitOr, and-step, and-shr, and-mask, and-le-l, or-step, or-shr, shifted-half, shifted-even}
 use lib.Count.{trailingZeros, under, ones, ones-step}
 use lib.ListN.{length, getD, length-append, List·getD-append}
 use lib.Seq.{getD-at}
-use Rattle.definitions.specs.Bounded.{_and_, _or_, _is_, _upto_, faultIf}
-use Rattle.definitions.specs.Sets.{has, forEach, forSome, within, meets, lowest, membersBelow, sizeBelow}
+use Rattle.definitions.specs.Bounded.{_and_, _or_, _is_, _upto_, faultIf, orElse, firstBelow}
+use Rattle.definitions.specs.Sets.{has, forEach, forSome, within, meets, lowest, membersBelow, sizeBelow, size}
 use Rattle.definitions.proofs.Bounded.{decide, and-iff, upto-iff, all-iff, any-iff, true-of, of-true, false-of, not-false, same-test, fault-none, none-fault, each-none, none-each, first-stop, first-found}
 
 two-pos : 0 < 2
@@ -68,6 +68,11 @@ and-false : (b : Bool) → (b and false) ≡ false
 unfolding _and_
 and-false true = refl
 and-false false = refl
+
+pub or-false : (b : Bool) → (b or false) ≡ b
+unfolding _or_
+or-false true = refl
+or-false false = refl
 
 -- ---- `has`: digit 0, and the digits above it; the empty set
 
@@ -454,24 +459,42 @@ has-from (suc k) s (suc n) =
     ∙ ap (λ (x : ℕ). has x n) (shifted-half (s / 2 ^ suc k) k ∙ ap (λ (x : ℕ). x * 2 ^ k) e) ∙ has-from k (s / 2) n
     ∙ ap₂ _and_ (sym (has-suc s n)) (sym (leb·suc-suc k n))
 
-module _ (d s : ℕ) (p : ℕ → Bool) (same : (n : ℕ) → n < 64 → has d n ≡ (has s n and p n)) where
-  pub lowest-empty : d ≡ 0 → lowest s p ≡ none
-  lowest-empty e =
-      none-lowest s p
-      (λ n l t u. not-false (sym (same n l) ∙ ap (λ (x : ℕ). has x n) e ∙ has-none n) (and-iff (has s n) (p n) .1 (t, u)))
+-- `(s >> k) << k`
+pub has-next : (s k n : ℕ) → s < 2 ^ 64 → has ((s / 2 ^ k * 2 ^ k) % 2 ^ 64) n ≡ (has s n and k upto n)
+has-next s k n h =
+    ap (λ (x : ℕ). has x n) (mod-eq-of-lt (lt-of-le-of-lt (div-mul-le-self s (2 ^ k)) h)) ∙ has-from k s n
 
-  pub lowest-word : d < 2 ^ 64 → (d ≡ 0 → ⊥) → lowest s p ≡ some (trailingZeros 64 d)
-  lowest-word h z =
-      let low = low-set 64 d (omega arith) h in
-      let n = trailingZeros 64 d in
-      let both = and-iff (has s n) (p n) .0 (of-true (sym (same n (low .0)) ∙ low .1)) in
-      is-lowest s p n
-      (record {
-        below = low .0;
-        member = both .0;
-        passes = both .1;
-        least = λ i l t u. not-false (sym (same i (lt-trans l (low .0))) ∙ low-clear 64 d i l) (and-iff (has s i) (p i) .1 (t, u));
-      })
+first-cong : (f g : ℕ → Option ℕ) (n : ℕ) → ((i : ℕ) → i < n → f i ≡ g i) → firstBelow n f ≡ firstBelow n g
+unfolding firstBelow
+first-cong f g zero h = refl
+first-cong f g (suc n) h = ap₂ orElse (first-cong f g n (λ i l. h i (omega arith))) (h n (le-refl (suc n)))
+
+-- the lowest member of d, where d is the set of the members of s that pass p
+pub lowest-as : (d s : ℕ) (p : ℕ → Bool) → ((n : ℕ) → n < 64 → has d n ≡ (has s n and p n)) → lowest d (λ n. true) ≡ lowest s p
+unfolding lowest
+lowest-as d s p same =
+    first-cong (λ n. faultIf (has d n and true) n) (λ n. faultIf (has s n and p n) n) 64
+    (λ n l. ap (λ (b : Bool). faultIf b n) (and-true (has d n) ∙ same n l))
+
+pub lowest-empty : (d : ℕ) → d ≡ 0 → lowest d (λ n. true) ≡ none
+lowest-empty d e =
+    none-lowest d (λ n. true) (λ n l t u. not-false (ap (λ (x : ℕ). has x n) e ∙ has-none n) t)
+
+pub lowest-word : (d : ℕ) → d < 2 ^ 64 → (d ≡ 0 → ⊥) → lowest d (λ n. true) ≡ some (trailingZeros 64 d)
+lowest-word d h z =
+    let low = low-set 64 d (omega arith) h in
+    is-lowest d (λ n. true) (trailingZeros 64 d)
+    (record { below = low .0; member = of-true (low .1); passes = tt; least = λ i l t u. not-false (low-clear 64 d i l) t })
+
+-- `(s >> n) & 1 == 1`
+pub has-bit : (s n : ℕ) → eqb (bitAnd (s / 2 ^ n) 1) 1 ≡ has s n
+unfolding has
+has-bit s n = ap (λ (x : ℕ). eqb x 1) (and-mask (s / 2 ^ n) 1)
+
+-- `u64::count_ones(s)`
+pub size-word : (s : ℕ) → s < 2 ^ 64 → ones s ≡ size s
+unfolding size
+size-word s h = sym (size-ones 64 s h)
 
 -- `a & !b == 0`, `a & b != 0`
 pub within-word : (a b : ℕ) → a < 2 ^ 64 → b < 2 ^ 64 → eqb (bitAnd a (2 ^ 64 - 1 - b)) 0 ≡ within a b
