@@ -1,1 +1,3 @@
 pub mod Covers
+pub mod Rules
+pub mod Made
