@@ -80,3 +80,17 @@ fn virus_estimates_are_least() {
         assert_eq!(said, read(&folder.join("shut-off-1.txt")));
     }
 }
+
+/// The example in the description of the text form is K with E.
+#[test]
+fn described_example_is_k() {
+    let described = read(&examples().join("../docs/TEXT_FORM.md"));
+    let (_, from) = described.split_once("## An example").unwrap();
+    let (part, _) = from.split_once("`examples/`").unwrap();
+    let out = fresh_folder("described");
+    fs::write(out.join("text"), part).unwrap();
+    printed(&out, &["asm", "text", "m", "e"]);
+    let k = examples().join("k/accepted");
+    assert_eq!(fs::read(out.join("m")).unwrap(), fs::read(k.join("model.blk")).unwrap());
+    assert_eq!(fs::read(out.join("e")).unwrap(), fs::read(k.join("estimate.blk")).unwrap());
+}

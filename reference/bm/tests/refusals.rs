@@ -209,51 +209,87 @@ fn last_answer(text: &str, change: impl Fn(&mut [u32]), moves: &[[u32; 5]]) -> u
     *answers.last().unwrap()
 }
 
+const K: &str = "free x z received y free u v c
+    box site x {c} x(y).0 | x<z>.0 box site u {c} u<v>.0";
+
+fn unchanged(_: &mut [u32]) {}
+
 /// Of 12 to 20, the pairs 15 and 16 and 18 and 19 belong to different kinds
-/// of move, so no move has both.
+/// of move, so no move has both. The others are in the next three tests.
 #[test]
-fn moves_in_order() {
-    let none = |_: &mut [u32]| {};
-    let k = "free x z received y free u v c
-        box site x {c} x(y).0 | x<z>.0 box site u {c} u<v>.0";
+fn nobody_before_self_before_wrong_line() {
     // 12 and 13: no such thread or box, twice.
-    assert_eq!(last_answer(k, none, &[[8, 0, 7, 0, 7]]), 12);
-    assert_eq!(last_answer(k, none, &[[9, 5, 0, 5, 0]]), 12);
-    assert_eq!(last_answer(k, none, &[[9, 0, 0, 0, 9]]), 12);
+    assert_eq!(last_answer(K, unchanged, &[[8, 0, 7, 0, 7]]), 12);
+    assert_eq!(last_answer(K, unchanged, &[[9, 5, 0, 5, 0]]), 12);
+    assert_eq!(last_answer(K, unchanged, &[[9, 0, 0, 0, 9]]), 12);
     // 13 and 14: one thread twice, at a line of the wrong sort.
-    assert_eq!(last_answer(k, none, &[[8, 0, 0, 0, 0]]), 13);
-    assert_eq!(last_answer(k, none, &[[9, 0, 0, 0, 0]]), 13);
+    assert_eq!(last_answer(K, unchanged, &[[8, 0, 0, 0, 0]]), 13);
+    assert_eq!(last_answer(K, unchanged, &[[9, 0, 0, 0, 0]]), 13);
     // 14 and 15: two outputs on different channels.
     let outputs = "free x z c box site x {c} x<z>.0 | z<x>.0";
-    assert_eq!(last_answer(outputs, none, &[[2, 0, 0, 0, 0], [8, 0, 0, 0, 1]]), 14);
+    assert_eq!(last_answer(outputs, unchanged, &[[2, 0, 0, 0, 0], [8, 0, 0, 0, 1]]), 14);
     // 14 and 16: an output on no site as the input end.
     let no_site = "free x z u c box site x {c} z<x>.0 box site u {c} u<x>.0";
-    assert_eq!(last_answer(no_site, none, &[[9, 0, 0, 1, 0]]), 14);
-    // 16 and 17: hidden on either side, and unfit.
+    assert_eq!(last_answer(no_site, unchanged, &[[9, 0, 0, 1, 0]]), 14);
+}
+
+#[test]
+fn no_site_before_unfit_before_private() {
     let ends = |one: &str, other: &str, ty: &str| {
-        format!(
+        let text = format!(
             "free x u v c d received y restricted n
             box {one} x {{c}} x(y).0 box {other} u {{{ty}}} new n.u<n>.0"
-        )
+        );
+        last_answer(&text, unchanged, &[[3, 1, 0, 0, 0], [9, 0, 0, 1, 0]])
     };
-    let sent = [[3, 1, 0, 0, 0], [9, 0, 0, 1, 0]];
-    assert_eq!(last_answer(&ends("hidden", "site", "d"), none, &sent), 16);
-    assert_eq!(last_answer(&ends("site", "hidden", "d"), none, &sent), 16);
+    // 16 and 17: hidden on either side, and unfit.
+    assert_eq!(ends("hidden", "site", "d"), 16);
+    assert_eq!(ends("site", "hidden", "d"), 16);
     // 16 and 18.
-    assert_eq!(last_answer(&ends("hidden", "site", "c"), none, &sent), 16);
+    assert_eq!(ends("hidden", "site", "c"), 16);
     // 17 and 18.
-    assert_eq!(last_answer(&ends("site", "site", "d"), none, &sent), 17);
-    assert_eq!(last_answer(&ends("site", "site", "c"), none, &sent), 18);
-    // 19 and 20: sixteen sites, and the last stamp.
+    assert_eq!(ends("site", "site", "d"), 17);
+    assert_eq!(ends("site", "site", "c"), 18);
+}
+
+#[test]
+fn full_before_spent() {
     let sites: String = (0..16).map(|at| format!("site s{at} {{c}} ")).collect();
     let names: String = (0..16).map(|at| format!("s{at} ")).collect();
     let full = format!("free c {names} exposed e box {sites} expose e {{c}}.0");
     let spent = |words: &mut [u32]| words[0] = 65_535;
     assert_eq!(last_answer(&full, spent, &[[5, 0, 0, 0, 0]]), 19);
-    assert_eq!(last_answer(&full, none, &[[5, 0, 0, 0, 0]]), 19);
+    assert_eq!(last_answer(&full, unchanged, &[[5, 0, 0, 0, 0]]), 19);
     let room = "free c x exposed e box site x {c} expose e {c}.0";
     assert_eq!(last_answer(room, spent, &[[5, 0, 0, 0, 0]]), 20);
-    assert_eq!(last_answer(room, none, &[[5, 0, 0, 0, 0]]), 0);
+    assert_eq!(last_answer(room, unchanged, &[[5, 0, 0, 0, 0]]), 0);
+}
+
+/// What is private is the held name, not the name that the line sends: a
+/// received name may hold a restricted one, and a name of kind 3 goes out.
+#[test]
+fn private_is_the_held_name() {
+    let text = "free x u c received y w restricted n
+        box site x {c} x(w).0
+        box site u {c} new n.(u<n>.0 | u(y).u<y>.0)";
+    let moves = [[3, 1, 0, 0, 0], [2, 1, 0, 0, 0], [8, 1, 1, 0, 0], [9, 0, 0, 1, 1]];
+    assert_eq!(last_answer(text, unchanged, &moves), 18);
+    let text = "free x u c received w exposed e
+        box site x {c} x(w).0
+        box site u {c} expose e {c}.u<e>.0";
+    assert_eq!(last_answer(text, unchanged, &[[5, 1, 0, 0, 0], [9, 0, 0, 1, 0]]), 0);
+}
+
+/// Channels are held names: two stamps of one name differ.
+#[test]
+fn channels_are_held_names() {
+    let text = "free x c received y restricted n
+        box site x {c} !new n.(n(y).0 | n<x>.0)";
+    let mut moves = vec![[4, 0, 0, 0, 0], [4, 0, 0, 0, 0], [3, 0, 1, 0, 0], [3, 0, 2, 0, 0]];
+    moves.extend([[2, 0, 1, 0, 0], [2, 0, 2, 0, 0], [8, 0, 1, 0, 4]]);
+    assert_eq!(last_answer(text, unchanged, &moves), 15);
+    *moves.last_mut().unwrap() = [8, 0, 1, 0, 3];
+    assert_eq!(last_answer(text, unchanged, &moves), 0);
 }
 
 /// A draft of one box whose lines are a chain of outputs and a nil.
