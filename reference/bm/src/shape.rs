@@ -105,21 +105,34 @@ impl Fields {
     }
 }
 
+/// A set of lines of a box, one bit a line.
+type LineSet = u128;
+
 /// The lowest line that names a child not after itself, past the end or
 /// already named, or that, not being 0, no line of the box names.
 pub fn tree_fault(lines: &[Line]) -> Option<usize> {
-    let mut named_at_all = [false; crate::model::MAX_LINES];
-    for child in lines.iter().flat_map(|line| line.children()) {
-        if let Some(mark) = named_at_all.get_mut(child.index()) {
-            *mark = true;
-        }
+    let mut named: LineSet = 0;
+    let bad = (0..lines.len()).find(|at| has_bad_child(lines, *at, &mut named));
+    let all = (1 << lines.len()) - 1;
+    if bad.is_none() && named | 1 == all {
+        return None;
     }
-    let mut named = [false; crate::model::MAX_LINES];
-    (0..lines.len()).find(|&at| {
-        let bad_child = lines[at].children().any(|child| {
-            let child = child.index();
-            child <= at || child >= lines.len() || std::mem::replace(&mut named[child], true)
-        });
-        bad_child || (at != 0 && !named_at_all[at])
+    let named_at_all = lines.iter().flat_map(|line| line.children());
+    let named_at_all = named_at_all.filter(|child| child.index() < lines.len());
+    let named_at_all = named_at_all.fold(1, |set: LineSet, child| set | 1 << child.0);
+    let orphan = (!named_at_all & all != 0).then(|| (!named_at_all).trailing_zeros() as usize);
+    bad.into_iter().chain(orphan).min()
+}
+
+/// Whether a line names a child not after itself, past the end or named
+/// already. The children are added to the named ones.
+fn has_bad_child(lines: &[Line], at: usize, named: &mut LineSet) -> bool {
+    lines[at].children().any(|child| {
+        let child = child.index();
+        if child <= at || child >= lines.len() || *named >> child & 1 == 1 {
+            return true;
+        }
+        *named |= 1 << child;
+        false
     })
 }

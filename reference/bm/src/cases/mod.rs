@@ -150,10 +150,11 @@ impl Maker<'_> {
     }
 
     fn any_size(rng: &mut Rng) -> Size {
-        match rng.below(10) {
-            0..5 => Size::small(rng),
-            5..8 => Size::typical(rng),
-            _ => Size::lively(rng),
+        match rng.below(20) {
+            0..10 => Size::small(rng),
+            10..15 => Size::typical(rng),
+            15..19 => Size::lively(rng),
+            _ => Size::LARGEST,
         }
     }
 
