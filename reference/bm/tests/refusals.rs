@@ -113,6 +113,92 @@ fn site_then_line_then_tree_then_reach() {
     assert_eq!(refusal(&changed(&[tree_of_1, reach_of_0])), (8, 1, 0));
 }
 
+/// K's site of box 1, each field at and past its limit.
+#[test]
+fn each_fault_of_a_site() {
+    let site = |at: usize, byte: u8| refusal(&changed(&[(3, field(0, at), byte)]));
+    let right = changed(&[(3, field(0, 1), 1)]);
+    assert!(Model::read(&right).unwrap().boxes()[1].sites()[0].hidden);
+    let subjects = [0, 2, 6, 60, 63, 64, 255];
+    assert!(subjects.iter().all(|subject| site(0, *subject) == (6, 1, 0)));
+    assert!([2, 3, 255].iter().all(|byte| site(1, *byte) == (6, 1, 0)));
+    assert!((2..8).all(|at| site(at, 1) == (6, 1, 0)));
+    // No type; one with the subject, a received name, a name past the list.
+    assert!([0, 0x28, 0x24, 0x60].iter().all(|ty| site(8, *ty) == (6, 1, 0)));
+    assert_eq!(site(15, 0x80), (6, 1, 0));
+    assert!(Model::read(&changed(&[(3, field(0, 8), 0x33)])).is_ok());
+}
+
+/// Types of eight and nine names, for sites and for expose lines.
+#[test]
+fn types_have_at_most_eight_names() {
+    for (count, right) in [(8, true), (9, false)] {
+        let ty: NameSet = (1..=count).map(NameNo).collect();
+        let mut draft = chain(3);
+        draft.kinds = vec![NameKind::Free; 12];
+        draft.kinds[11] = NameKind::Exposed;
+        draft.boxes[0].lines[0] = Line::Expose { name: NameNo(11), ty, next: LineNo(1) };
+        let answer = Model::read(&draft.image()).err();
+        assert_eq!(answer, (!right).then_some(Cause::Line.at(0, 0)));
+        draft.boxes[0].sites[0].ty = ty;
+        let answer = Model::read(&draft.image()).err();
+        assert_eq!(answer, (!right).then_some(Cause::Site.at(0, 0)));
+    }
+}
+
+/// K's lines of box 0, fields that are wrong one at a time.
+#[test]
+fn each_fault_of_a_line() {
+    let line = |record: usize, at: usize, byte: u8| {
+        refusal(&changed(&[(2, field(record, at), byte)])) == (7, 0, record as u32)
+    };
+    assert!((0..5).all(|record| line(record, 0, 9) && line(record, 3, 1)));
+    // Names past the list, and an input into a free name.
+    assert!([6, 60, 64, 255].iter().all(|name| line(1, 1, *name) && line(3, 2, *name)));
+    assert!(line(1, 2, 0) && line(1, 2, 6));
+    // Unused fields of nil, parallel and output.
+    assert!([1, 2, 4, 5, 6, 7, 8, 15].iter().all(|at| line(2, *at, 1)));
+    assert!([1, 2, 8, 15].iter().all(|at| line(0, *at, 1)));
+    assert!([6, 7, 8, 15].iter().all(|at| line(3, *at, 1)));
+    // Restrictions and exposures of names of other kinds: K has none right.
+    for name in 0..6 {
+        let turned = |operation: u8, ty: u8| {
+            let fields = [(0, operation), (1, name), (2, 0), (8, ty)];
+            refusal(&changed(&fields.map(|(at, byte)| (2, field(3, at), byte))))
+        };
+        assert_eq!(turned(3, 0), (7, 0, 3));
+        assert_eq!(turned(6, 0x20), (7, 0, 3));
+    }
+}
+
+/// The lowest line at fault, where a line that nobody names is below or
+/// above the line that names wrongly.
+#[test]
+fn the_lowest_line_of_a_bad_tree() {
+    let tree = |changes: &[(usize, usize, u8)]| {
+        let changes: Vec<(usize, usize, u8)> =
+            changes.iter().map(|(line, at, byte)| (2, field(*line, *at), *byte)).collect();
+        refusal(&changed(&changes))
+    };
+    // K's lines: 0 parallel (1, 3), 1 input to 2, 3 output to 4.
+    assert_eq!(tree(&[(1, 4, 1)]), (8, 0, 1));
+    assert_eq!(tree(&[(1, 4, 5)]), (8, 0, 1));
+    // 3 names 3 itself: 4 is named by none, 3 has the fault.
+    assert_eq!(tree(&[(3, 4, 3)]), (8, 0, 3));
+    // 3 names 2, which 1 names: named twice at 3.
+    assert_eq!(tree(&[(3, 4, 2)]), (8, 0, 3));
+    // 1 names 4: 2 is named by none, before 3 names 4 again.
+    assert_eq!(tree(&[(1, 4, 4)]), (8, 0, 2));
+    // 0 names 3 twice, and 1 twice.
+    assert_eq!(tree(&[(0, 4, 3)]), (8, 0, 0));
+    assert_eq!(tree(&[(0, 6, 1)]), (8, 0, 0));
+    // 0 names 1 and 4, 4 names 3: the fault is 3's, which names 4 again.
+    assert_eq!(tree(&[(0, 6, 4), (4, 0, 2), (4, 4, 3)]), (8, 0, 3));
+    // The same with 3 a nil: 4 names 3, so 3 is not at fault, and 4 is.
+    let later = [(0, 6, 4), (3, 0, 0), (3, 1, 0), (3, 2, 0), (3, 4, 0), (4, 0, 2), (4, 4, 3)];
+    assert_eq!(tree(&later), (8, 0, 4));
+}
+
 #[test]
 fn left_over_blocks() {
     let mut image = changed(&[]);

@@ -171,7 +171,16 @@ impl Hand<'_> {
 
     /// A number from the count of names on, below 256.
     fn past_list(&mut self) -> u8 {
-        self.rng.between(self.model.kinds().len(), 255) as u8
+        let names = self.model.kinds().len();
+        let any = self.rng.between(names, 255);
+        [names, names + 1, 63, 64, 255, any][self.rng.below(6)] as u8
+    }
+
+    /// A number from the count of names on, below 64.
+    fn bit_past_list(&mut self) -> usize {
+        let names = self.model.kinds().len();
+        let any = self.rng.between(names, 63);
+        [names, 60, 63, any][self.rng.below(4)]
     }
 
     fn site_place(&mut self) -> Option<(usize, usize)> {
@@ -357,7 +366,7 @@ impl Hand<'_> {
     fn bit_past_names(&mut self) -> Option<Expected> {
         let name = self.name_where(|_| true)?;
         let number = self.rng.below(self.estimate_blocks());
-        let bit = self.rng.between(self.model.kinds().len(), 63);
+        let bit = self.bit_past_list();
         self.edit_estimate(number, |block| put_word(block, name.index(), 1 << bit));
         Self::of_estimate(Cause::Stray, number)
     }
@@ -431,7 +440,9 @@ impl Hand<'_> {
 
     fn site_byte(&mut self) -> Option<Expected> {
         let place = self.site_place()?;
-        let (at, byte) = (self.rng.between(1, 7), self.rng.between(2, 255) as u8);
+        let at = self.rng.between(1, 7);
+        let least = if at == 1 { 2 } else { 1 };
+        let byte = [least, 3, 128, 255][self.rng.below(4)];
         self.at_site(place, |record| record[at] = byte)
     }
 
@@ -448,8 +459,7 @@ impl Hand<'_> {
         let place = self.site_place()?;
         let free = self.model.free();
         let bound = self.name_where(|name| !free.has(name)).filter(|_| self.rng.percent(50));
-        let names = self.model.kinds().len();
-        let name = bound.unwrap_or_else(|| NameNo(self.rng.between(names, 63) as u8));
+        let name = bound.unwrap_or_else(|| NameNo(self.bit_past_list() as u8));
         self.set_type(place, self.site_type(place).with(name))
     }
 
@@ -469,7 +479,7 @@ impl Hand<'_> {
 
     fn unknown_operation(&mut self) -> Option<Expected> {
         let place = self.line_where(|_| true)?;
-        let operation = self.rng.between(9, 255) as u8;
+        let operation = [9, 10, 128, 255][self.rng.below(4)];
         self.at_line(place, |record| record[0] = operation)
     }
 
@@ -511,7 +521,7 @@ impl Hand<'_> {
             return None;
         };
         let nine: NameSet = self.model.listed().without(name).into_iter().take(9).collect();
-        let past = ty.with(NameNo(self.rng.between(self.model.kinds().len(), 63) as u8));
+        let past = ty.with(NameNo(self.bit_past_list() as u8));
         let ty = match self.rng.below(3) {
             0 => NameSet::EMPTY,
             1 if nine.len() == 9 => nine,
