@@ -3,4 +3,5 @@ pub mod Sets
 pub mod Starred
 pub mod Slots
 pub mod Arrays
+pub mod Tree
 pub mod Valid
