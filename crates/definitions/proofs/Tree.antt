@@ -8,11 +8,11 @@ use Prim.Native.Nat.{ℕ, zero, suc, _+_, _≤_, _<_}
 use native.Mathlib.Nat.{not-suc-le-zero, le-refl, le-of-suc-le-suc}
 use native.Mathlib.Omega.{arith}
 use lib.Dec.{T, T-not, not-T}
-use Rattle.definitions.specs.Bounded.{_and_, _or_, _implies_, _is_, _isnt_, _below_, anyBelow, faultIf, firstBelow}
+use Rattle.definitions.specs.Bounded.{_and_, _or_, _is_, _isnt_, anyBelow}
 use Rattle.definitions.specs.Model.{Line, Box, lineAt, lineCount, nil, parallel, hasChild, binds, parent, boundWithin, boundAbove}
 use Rattle.definitions.specs.ReadModel.{childFits, treeFits}
-use Rattle.definitions.proofs.Bounded.{tests, and-iff, or-iff, is-iff, isnt-iff, any-iff, true-of, none-fault, each-none, first-stop, first-found}
-use Rattle.definitions.proofs.Sets.{fault-some}
+use Rattle.definitions.proofs.Bounded.{tests, and-iff, or-iff, is-iff, isnt-iff, any-iff}
+use Rattle.definitions.proofs.Faults.{first-is, is-first}
 
 -- a line's children: the first of any line but nil, the second of a parallel
 pub child-iff : (l : Line) (c : ℕ)
@@ -46,10 +46,7 @@ second-child l e = child-iff l (l .child2) .1 (omega arith, inr (e, refl))
 -- the line that a search up from line c finds has c as a child
 pub parent-child : (x : Box) (c i : ℕ) → parent x c ≡ some i → (i < lineCount x) × T (hasChild (lineAt x i) c)
 unfolding parent
-parent-child x c i e =
-    let f = first-found (λ j. faultIf (hasChild (lineAt x j) c) j) (lineCount x) i e in
-    let g = fault-some (hasChild (lineAt x (f .0)) c) (f .0) i (f .2) in
-    subst (λ (j : ℕ). (j < lineCount x) × T (hasChild (lineAt x j) c)) (g .1) (f .1, g .0)
+parent-child x c i e = let f = is-first (λ j. hasChild (lineAt x j) c) (lineCount x) i e in (f .0, f .1)
 
 -- line c as a child of line i: after it, there, and no child of a lower line
 pub record ChildOf (x : Box) (i c : ℕ) : Type 0 where
@@ -80,11 +77,7 @@ module _ (x : Box) (fits : (i : ℕ) → i < lineCount x → T (treeFits x i)) w
   -- a child's parent is the line that names it: no lower line does
   pub parent-of : (i c : ℕ) → i < lineCount x → T (hasChild (lineAt x i) c) → parent x c ≡ some i
   unfolding parent
-  parent-of i c h t =
-      let up : ℕ → Option ℕ = λ j. faultIf (hasChild (lineAt x j) c) j in
-      first-stop up (lineCount x) h
-      (each-none up i (λ j l. none-fault (hasChild (lineAt x j) c) j (child-of i c h t .first j l)))
-      (ap (λ (b : Bool). faultIf b i) (true-of (hasChild (lineAt x i) c) t))
+  parent-of i c h t = first-is (λ j. hasChild (lineAt x j) c) (lineCount x) i h t (child-of i c h t .first)
 
   -- a parent has a lower number
   pub parent-below : (c i : ℕ) → parent x c ≡ some i → i < c
