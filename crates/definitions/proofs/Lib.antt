@@ -6,3 +6,4 @@ pub mod Arrays
 pub mod Faults
 pub mod Tree
 pub mod Valid
+pub mod Image

@@ -112,8 +112,8 @@ fits-iff m = (
 
 -- every type is a word of 64 digits, as those read from bytes are: a set has no member past 63
 pub record Words (m : Model) : Type 0 where
-  pub sites : (b i : ℕ) → siteAt (boxAt m b) i .type < 2 ^ 64
-  pub lines : (b i : ℕ) → lineAt (boxAt m b) i .type < 2 ^ 64
+  pub sites : (b : ℕ) → b < boxCount m → (i : ℕ) → i < siteCount (boxAt m b) → siteAt (boxAt m b) i .type < 2 ^ 64
+  pub lines : (b : ℕ) → b < boxCount m → (i : ℕ) → i < lineCount (boxAt m b) → lineAt (boxAt m b) i .type < 2 ^ 64
 
 -- what a line binds
 pub binds-iff : (l : Line) (n : ℕ)
@@ -185,11 +185,11 @@ bound-abroad : (m : Model) (b i n c : ℕ) → c < b → T (bindsIn (boxAt m c) 
 unfolding boundBefore
 bound-abroad m b i n c h t = simp or-iff (inl (any-iff b (λ c. bindsIn (boxAt m c) n) .1 (c, h, t)))
 
-module _ (m : Model) (words : Words m) (b i : ℕ) where
+module _ (m : Model) (b i : ℕ) where
   -- 6
-  valid-site : T (siteFits m b i) → ValidSite m b i (siteAt (boxAt m b) i)
+  valid-site : siteAt (boxAt m b) i .type < 2 ^ 64 → T (siteFits m b i) → ValidSite m b i (siteAt (boxAt m b) i)
   unfolding siteFits typeFits
-  valid-site t =
+  valid-site w t =
       let p = simp (tests, forEach-iff, not-iff) at t in
       let s = siteAt (boxAt m b) i in
       record {
@@ -197,8 +197,8 @@ module _ (m : Model) (words : Words m) (b i : ℕ) where
         free = p .0 .0 .0 .0 .1;
         flagFits = p .0 .0 .1;
         typeSize = record { some = p .1 .0 .0 .0; most = p .1 .0 .0 .1 };
-        typeListed = λ n u. p .1 .0 .1 n (has-below 64 (s .type) n (words .sites b i) u) u .0;
-        typeFree = λ n u. p .1 .0 .1 n (has-below 64 (s .type) n (words .sites b i) u) u .1;
+        typeListed = λ n u. p .1 .0 .1 n (has-below 64 (s .type) n w u) u .0;
+        typeFree = λ n u. p .1 .0 .1 n (has-below 64 (s .type) n w u) u .1;
         lacksSubject = p .1 .1;
         fresh = λ j h e. p .0 .0 .0 .1 (used-here m b i (s .subject) j h e);
         freshAbroad = λ c h j k e. p .0 .0 .0 .1 (used-abroad m b i (s .subject) c j h k e);
@@ -206,9 +206,9 @@ module _ (m : Model) (words : Words m) (b i : ℕ) where
       }
 
   -- 7
-  valid-line : T (lineFits (m .kinds) (lineAt (boxAt m b) i)) → ValidLine m (lineAt (boxAt m b) i)
+  valid-line : lineAt (boxAt m b) i .type < 2 ^ 64 → T (lineFits (m .kinds) (lineAt (boxAt m b) i)) → ValidLine m (lineAt (boxAt m b) i)
   unfolding lineFits typeFits usesName1 usesName2 usesChild1
-  valid-line t =
+  valid-line w t =
       let p = simp (tests, forEach-iff, not-iff, or-iff) at t in
       let l = lineAt (boxAt m b) i in
       let named : 3 ≤ l .op → l .name1 < length (m .kinds) = p .0 .0 .0 .0 .0 .0 .0 .0 .0 .1 in
@@ -228,7 +228,7 @@ module _ (m : Model) (words : Words m) (b i : ℕ) where
         exposeListed = λ e. named (omega arith);
         exposeKind = λ e. bound3 e .0;
         exposeSize = λ e. record { some = bound3 e .1 .0 .0 .0; most = bound3 e .1 .0 .0 .1 };
-        exposeType = λ e n u. bound3 e .1 .0 .1 n (has-below 64 (l .type) n (words .lines b i) u) u;
+        exposeType = λ e n u. bound3 e .1 .0 .1 n (has-below 64 (l .type) n w u) u;
         hideListed = λ e. named (omega arith);
         unhideListed = λ e. named (omega arith);
         exposeLacks = λ e. bound3 e .1 .1;
@@ -237,10 +237,10 @@ module _ (m : Model) (words : Words m) (b i : ℕ) where
       }
 
   -- 9
-  valid-reach : length (m .kinds) ≤ 60 → b < boxCount m → i < lineCount (boxAt m b) → ValidLine m (lineAt (boxAt m b) i)
+  valid-reach : lineAt (boxAt m b) i .type < 2 ^ 64 → length (m .kinds) ≤ 60 → b < boxCount m → i < lineCount (boxAt m b) → ValidLine m (lineAt (boxAt m b) i)
       → T (reachFits m b i) → ValidReach m b i (lineAt (boxAt m b) i)
   unfolding reachFits _or_ _is_
-  valid-reach few h k v t =
+  valid-reach w few h k v t =
       let p = simp (tests, or-iff, not-iff) at t in
       let l = lineAt (boxAt m b) i in
       let reach : (n : ℕ) → n < 64 → T (uses l n) → (kind (m .kinds) n ≡ 0) ⊎ T (boundAbove (boxAt m b) i n) =
@@ -252,7 +252,7 @@ module _ (m : Model) (words : Words m) (b i : ℕ) where
         outputChannel = λ e. channel output tt e (v .outputListed e);
         outputSent = λ e. reach (l .name2) (omega (arith, v .sentListed e)) (uses-sent l e);
         inputChannel = λ e. channel input tt e (v .inputListed e);
-        exposeReach = λ e n u. reach n (has-below 64 (l .type) n (words .lines b i) u) (uses-type l n e u);
+        exposeReach = λ e n u. reach n (has-below 64 (l .type) n w u) (uses-type l n e u);
         hideReach = λ e. channel hide tt e (v .hideListed e);
         unhideReach = λ e. channel unhide tt e (v .unhideListed e);
         owned = λ n u. owner-is m n b h (bindsIn-iff (boxAt m b) n .1 (i, k, u))
@@ -293,15 +293,15 @@ valid-of m words e few kinds boxes counts =
       kindsFit = kinds;
       mostBoxes = boxes;
       box = λ b h. let c = counts b h in
-          let line : (i : ℕ) → i < lineCount (boxAt m b) → ValidLine m (lineAt (boxAt m b) i) = λ i k. valid-line m words b i (f .lines b h i k) in
+          let line : (i : ℕ) → i < lineCount (boxAt m b) → ValidLine m (lineAt (boxAt m b) i) = λ i k. valid-line m b i (words .lines b h i k) (f .lines b h i k) in
           record {
             someSite = c .someSite;
             mostSites = c .mostSites;
             someLine = c .someLine;
             mostLines = c .mostLines;
-            site = λ i k. valid-site m words b i (f .sites b h i k);
+            site = λ i k. valid-site m b i (words .sites b h i k) (f .sites b h i k);
             line = line;
             tree = valid-tree (boxAt m b) (f .trees b h);
-            reach = λ i k. valid-reach m words b i few h k (line i k) (f .reaches b h i k);
+            reach = λ i k. valid-reach m b i (words .lines b h i k) few h k (line i k) (f .reaches b h i k);
           };
     }
