@@ -7,7 +7,7 @@ use Prim.Native.Nat.{ℕ, _≤_, _<_}
 use native.Mathlib.Omega.{arith}
 use native.Mathlib.Decide.{ℕ-discrete}
 use lib.Dec.{T, T-not, not-T}
-use Rattle.definitions.specs.Bounded.{_isnt_, _below_, faultIf, orElse, firstBelow}
+use Rattle.definitions.specs.Bounded.{_or_, _isnt_, _below_, faultIf, orElse, firstBelow}
 use Rattle.definitions.proofs.Bounded.{isnt-iff, below-iff, left-none, right-none, fault-none, none-fault, each-none, none-each, true-of, first-stop, first-found}
 use Rattle.definitions.proofs.Sets.{fault-some}
 
@@ -27,6 +27,12 @@ module _ {A : Type 0} where
   pub passed-iff : (b : Bool) (a : A) → (faultIf (not b) a ≡ none) ↔ T b
   passed-iff true a = (λ e. tt, λ t. refl)
   passed-iff false a = (λ e. fault-none true a e tt, λ t. absurd t)
+
+  -- a fault where one of two tests holds
+  pub either-iff : (b c : Bool) (a : A) → (faultIf (b or c) a ≡ none) ↔ ((faultIf b a ≡ none) × (faultIf c a ≡ none))
+  unfolding _or_
+  either-iff true c a = (λ e. absurd (fault-none true a e tt), λ p. p .0)
+  either-iff false c a = (λ e. (refl, e), λ p. p .1)
 
   -- a fault where a number is below a limit; where two numbers differ
   pub reached-iff : (m n : ℕ) (a : A) → (faultIf (m below n) a ≡ none) ↔ (n ≤ m)
@@ -58,4 +64,4 @@ is-first p n i e =
     subst (λ (k : ℕ). (k < n) × T (p k) × ((j : ℕ) → j < k → T (p j) → ⊥)) (g .1)
     (f .1, g .0, λ j l. fault-none (p j) j (none-each found (f .0) (f .3) j l))
 
-pub ruleset faults = (else-iff, first-iff, passed-iff, reached-iff, agree-iff)
+pub ruleset faults = (else-iff, first-iff, passed-iff, either-iff, reached-iff, agree-iff)

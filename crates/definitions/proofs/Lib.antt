@@ -7,3 +7,4 @@ pub mod Faults
 pub mod Tree
 pub mod Valid
 pub mod Image
+pub mod ReadModel
