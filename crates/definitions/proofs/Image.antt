@@ -1,17 +1,13 @@
--- The model that an image holds, entry by entry; and that what is read from bytes fits its word. Assumes nothing.
-use mathlib.Core.Path.{_≡_, refl, ap, subst, sym, _∙_}
+-- The model that an image holds, entry by entry. Assumes nothing.
+use mathlib.Core.Path.{_≡_, refl}
 use mathlib.Core.List.{List}
-use Prim.Native.Nat.{ℕ, _+_, _*_, _/_, _%_, _^_, _≤_, _<_}
-use native.Mathlib.Nat.{le-trans}
+use Prim.Native.Nat.{ℕ, _+_, _/_, _%_, _≤_, _<_}
 use native.Mathlib.Omega.{arith}
-use native.Mathlib.Decide.{decLt}
-use lib.ListN.{length, getD, take, drop, length-take, List·getD-eq-default}
-use lib.Seq.{getD-take, getD-drop}
-use Rattle.definitions.specs.Words.{byteAt, wordAt, blockOf, countOf, dataWord}
-use Rattle.definitions.specs.Model.{Site, Line, Box, Model, noSite, noLine, noBox, siteAt, lineAt, boxAt, siteCount, lineCount, boxCount, kind}
+use lib.ListN.{length, List·getD-eq-default}
+use Rattle.definitions.specs.Words.{blockOf, countOf, dataWord}
+use Rattle.definitions.specs.Model.{noSite, noLine, noBox, siteAt, lineAt, boxAt, siteCount, lineCount, boxCount, kind}
 use Rattle.definitions.specs.Image.{siteRecord, lineRecord, nameCount, boxesOf, kindsOf, sitesBlock, linesOf, boxOfImage, modelOf}
 use Rattle.definitions.proofs.Bounded.{length-tabulate, getD-tabulate}
-use Rattle.definitions.proofs.Valid.{Words}
 
 module _ (image : List ℕ) where
   -- the boxes
@@ -60,42 +56,3 @@ module _ (image : List ℕ) where
     unfolding boxOfImage lineAt
     box-line i h =
         getD-tabulate (linesOf image b) (λ i. lineRecord (blockOf image (sitesBlock image b + 1 + i / 31)) (i % 31)) noLine i h
-
--- ---- words of bytes
-
--- every entry is a byte, as those of a `&[u8]` are
-abbrev pub Bytes : List ℕ → Type 0
-Bytes s = (i : ℕ) → getD s i 0 < 256
-
-pub bytes-block : (image : List ℕ) → Bytes image → (k : ℕ) → Bytes (blockOf image k)
-unfolding blockOf
-bytes-block image f k i = pick (decLt i 512)
-  where
-    pick : Dec (i < 512) → getD (take 512 (drop (512 * k) image)) i 0 < 256
-    pick (yes h) = rw (getD-take, getD-drop) (f (512 * k + i))
-    pick (no h) =
-        let e : getD (take 512 (drop (512 * k) image)) i 0 ≡ 0 =
-        List·getD-eq-default (take 512 (drop (512 * k) image)) 0 (omega (arith, length-take 512 (drop (512 * k) image))) in
-        omega arith
-
-pub bytes-word : (s : List ℕ) → Bytes s → (at : ℕ) → wordAt s at < 2 ^ 64
-unfolding wordAt
-bytes-word s f at =
-    omega (arith, f at, f (at + 1), f (at + 2), f (at + 3), f (at + 4), f (at + 5), f (at + 6), f (at + 7))
-
-pub bytes-data : (s : List ℕ) → Bytes s → (i : ℕ) → dataWord s i < 2 ^ 64
-unfolding dataWord
-bytes-data s f i = bytes-word s f (8 + 8 * i)
-
--- so every type in the model is a word
-pub image-words : (image : List ℕ) → Bytes image → Words (modelOf image)
-unfolding siteRecord lineRecord
-image-words image f = record {
-  sites = λ b h i k.
-      let e = model-box image b (rw (model-count image) at h) in
-      rw (e, box-site image b i (rw (e, box-sites image b) at k)) (bytes-data (blockOf image (sitesBlock image b)) (bytes-block image f (sitesBlock image b)) (2 * i + 1));
-  lines = λ b h i k.
-      let e = model-box image b (rw (model-count image) at h) in
-      let j = sitesBlock image b + 1 + i / 31 in
-      rw (e, box-line image b i (rw (e, box-lines image b) at k)) (bytes-data (blockOf image j) (bytes-block image f j) (2 * (i % 31) + 1));
-}

@@ -6,5 +6,7 @@ pub mod Arrays
 pub mod Faults
 pub mod Tree
 pub mod Valid
+pub mod Words
+pub mod Check
 pub mod Image
 pub mod ReadModel

@@ -1,9 +1,9 @@
 -- When a model image is not refused: exactly when its length, each block in the order asked for, and each record of its model fit;
 -- and then the model that it holds is valid. Assumes nothing.
-use mathlib.Core.Path.{_≡_, refl, ap, subst, sym, _∙_}
-use mathlib.Core.Bool.{Bool, true, false, not}
+use mathlib.Core.Path.{_≡_, refl}
+use mathlib.Core.Bool.{Bool, true, false}
 use mathlib.Core.List.{List}
-use mathlib.Core.Logic.{_↔_, _⊎_, inl, inr, _≢_, ⊎-elim}
+use mathlib.Core.Logic.{_↔_}
 use mathlib.Core.Option.{Option, none, some}
 use Prim.Native.Nat.{ℕ, zero, suc, _+_, _-_, _*_, _%_, _≤_, _<_}
 use native.Mathlib.Nat.{le-refl, le-antisymm, not-suc-le-zero, add-zero}
@@ -11,17 +11,17 @@ use native.Mathlib.Omega.{arith}
 use native.Mathlib.Decide.{decLt, ℕ-discrete}
 use lib.Dec.{T, lit≤}
 use lib.ListN.{length}
-use Rattle.definitions.specs.Bounded.{_and_, _or_, _is_, _isnt_, _below_, _upto_, faultIf, orElse}
+use Rattle.definitions.specs.Bounded.{_isnt_, _below_, faultIf, orElse}
 use Rattle.definitions.specs.Words.{blockOf, numberOf, kindOf, boxOf, countOf, spareOf, dataWord}
 use Rattle.definitions.specs.Check.{checkOf, checkHeld}
 use Rattle.definitions.specs.Answer.{Refusal, refusal}
-use Rattle.definitions.specs.Model.{boxAt, siteCount, lineCount, boxCount, kind}
+use Rattle.definitions.specs.Model.{kind}
 use Rattle.definitions.specs.Image.{nameCount, boxesOf, kindsOf, lineBlocks, sitesBlock, linesOf, boxOfImage, modelOf}
-use Rattle.definitions.specs.ReadModel.{blockFault, clearFrom, headCounts, headFault, sitesFault, linesFault, boxFault, leftOverFault, lengthFault, blocksFault, modelFault, readModel}
-use Rattle.definitions.proofs.Bounded.{tests, or-iff, is-iff, isnt-iff, below-iff, right-none, fault-none, not-false}
+use Rattle.definitions.specs.ReadModel.{blockFault, clearFrom, headCounts, headFault, sitesFault, linesFault, boxFault, leftOverFault, lengthFault, blocksFault, readModel}
+use Rattle.definitions.proofs.Bounded.{tests, below-iff, right-none, fault-none, not-false}
 use Rattle.definitions.proofs.Faults.{faults}
 use Rattle.definitions.proofs.Valid.{Counts, Fits, fits-iff, Valid, valid-of}
-use Rattle.definitions.proofs.Image.{model-count, model-box, model-kinds, model-names, model-kind, kind-past, box-sites, box-lines, Bytes, image-words}
+use Rattle.definitions.proofs.Image.{model-count, model-box, model-kinds, model-names, model-kind, kind-past, box-sites, box-lines}
 
 -- ---- one block
 
@@ -276,11 +276,11 @@ module _ (image : List ℕ) (f : Blocks image) where
 
 -- ---- an image that is not refused holds a valid model
 
-pub valid-image : (image : List ℕ) → Bytes image → readModel image ≡ none → Valid (modelOf image)
-valid-image image bytes e =
+pub valid-image : (image : List ℕ) → readModel image ≡ none → Valid (modelOf image)
+valid-image image e =
     let r = read-iff image .0 e in
     let f = r .blocks in
-    valid-of (modelOf image) (image-words image bytes) (fits-iff (modelOf image) .1 (r .model))
+    valid-of (modelOf image) (fits-iff (modelOf image) .1 (r .model))
     (rw (model-kinds image, model-names image) (f .head .names))
     (λ n. rw (model-kinds image) (kinds-fit image f n))
     (rw (model-count image) (f .head .boxes))

@@ -1,20 +1,19 @@
 -- What a model that is not refused promises: each fact that refusals 4 and 6 to 9 stand for, as a named record. Assumes nothing.
-use mathlib.Core.Path.{_≡_, refl, ap, ap₂, subst, sym, _∙_}
+use mathlib.Core.Path.{_≡_, refl, subst, sym}
 use mathlib.Core.Logic.{_↔_, _⊎_, inl, inr, _≢_, ⊎-elim}
-use mathlib.Core.Bool.{Bool, true, false, not}
-use mathlib.Core.Option.{Option, none, some}
-use Prim.Native.Nat.{ℕ, zero, suc, _+_, _^_, _≤_, _<_}
+use mathlib.Core.Bool.{Bool}
+use mathlib.Core.Option.{none, some}
+use Prim.Native.Nat.{ℕ, _≤_, _<_}
 use native.Mathlib.Omega.{arith}
-use native.Mathlib.Decide.{ℕ-discrete, decLt}
 use lib.Dec.{T}
 use lib.ListN.{length}
-use Rattle.definitions.specs.Bounded.{_and_, _or_, _is_, anyBelow, faultIf}
+use Rattle.definitions.specs.Bounded.{_or_, _is_, anyBelow}
 use Rattle.definitions.specs.Sets.{has, size}
 use Rattle.definitions.specs.Model.{Site, Line, Box, Model, siteAt, lineAt, boxAt, siteCount, lineCount, boxCount, kind, nil, parallel, restriction, output, input, expose, hide, unhide, binds, bindsIn, boundAbove, owner}
 use Rattle.definitions.specs.ReadModel.{typeFits, usedBefore, siteFits, usesName1, usesName2, usesChild1, lineFits, treeFits, uses, boundBefore, reachFits, firstMisfit, modelFault}
 use Rattle.definitions.proofs.Bounded.{tests, and-iff, or-iff, is-iff, any-iff}
 use Rattle.definitions.proofs.Faults.{faults, not-iff, first-is, is-first}
-use Rattle.definitions.proofs.Sets.{has-below, forEach-iff}
+use Rattle.definitions.proofs.Sets.{forEach-iff}
 use Rattle.definitions.proofs.Tree.{ChildOf, first-child, second-child, child-of, above-child}
 
 -- a type has 1 to 8 names
@@ -28,8 +27,8 @@ pub record ValidSite (m : Model) (b i : ℕ) (s : Site) : Type 0 where
   pub free : kind (m .kinds) (s .subject) ≡ 0
   pub flagFits : s .flag ≤ 1
   pub typeSize : TypeSize (s .type)
-  pub typeListed : (n : ℕ) → T (has (s .type) n) → n < length (m .kinds)
-  pub typeFree : (n : ℕ) → T (has (s .type) n) → kind (m .kinds) n ≡ 0
+  pub typeListed : (n : ℕ) → n < 64 → T (has (s .type) n) → n < length (m .kinds)
+  pub typeFree : (n : ℕ) → n < 64 → T (has (s .type) n) → kind (m .kinds) n ≡ 0
   pub lacksSubject : T (has (s .type) (s .subject)) → ⊥
   -- no earlier site of the box has the subject, and no site of an earlier box
   pub fresh : (j : ℕ) → j < i → siteAt (boxAt m b) j .subject ≢ s .subject
@@ -49,7 +48,7 @@ pub record ValidLine (m : Model) (l : Line) : Type 0 where
   pub exposeListed : l .op ≡ expose → l .name1 < length (m .kinds)
   pub exposeKind : l .op ≡ expose → kind (m .kinds) (l .name1) ≡ 3
   pub exposeSize : l .op ≡ expose → TypeSize (l .type)
-  pub exposeType : l .op ≡ expose → (n : ℕ) → T (has (l .type) n) → n < length (m .kinds)
+  pub exposeType : l .op ≡ expose → (n : ℕ) → n < 64 → T (has (l .type) n) → n < length (m .kinds)
   pub hideListed : l .op ≡ hide → l .name1 < length (m .kinds)
   pub unhideListed : l .op ≡ unhide → l .name1 < length (m .kinds)
   -- an expose's type lacks its name
@@ -73,7 +72,7 @@ pub record ValidReach (m : Model) (b i : ℕ) (l : Line) : Type 0 where
   pub outputChannel : l .op ≡ output → (kind (m .kinds) (l .name1) ≡ 0) ⊎ T (boundAbove (boxAt m b) i (l .name1))
   pub outputSent : l .op ≡ output → (kind (m .kinds) (l .name2) ≡ 0) ⊎ T (boundAbove (boxAt m b) i (l .name2))
   pub inputChannel : l .op ≡ input → (kind (m .kinds) (l .name1) ≡ 0) ⊎ T (boundAbove (boxAt m b) i (l .name1))
-  pub exposeReach : l .op ≡ expose → (n : ℕ) → T (has (l .type) n) → (kind (m .kinds) n ≡ 0) ⊎ T (boundAbove (boxAt m b) i n)
+  pub exposeReach : l .op ≡ expose → (n : ℕ) → n < 64 → T (has (l .type) n) → (kind (m .kinds) n ≡ 0) ⊎ T (boundAbove (boxAt m b) i n)
   pub hideReach : l .op ≡ hide → (kind (m .kinds) (l .name1) ≡ 0) ⊎ T (boundAbove (boxAt m b) i (l .name1))
   pub unhideReach : l .op ≡ unhide → (kind (m .kinds) (l .name1) ≡ 0) ⊎ T (boundAbove (boxAt m b) i (l .name1))
   pub owned : (n : ℕ) → T (binds l n) → owner m n ≡ some b
@@ -109,11 +108,6 @@ fits-iff m = (
   λ e. let p = simp faults at e in record { sites = p .0; lines = p .1 .0; trees = p .1 .1 .0; reaches = p .1 .1 .1 },
   λ f. simp faults (f .sites, (f .lines, (f .trees, f .reaches))),
 )
-
--- every type is a word of 64 digits, as those read from bytes are: a set has no member past 63
-pub record Words (m : Model) : Type 0 where
-  pub sites : (b : ℕ) → b < boxCount m → (i : ℕ) → i < siteCount (boxAt m b) → siteAt (boxAt m b) i .type < 2 ^ 64
-  pub lines : (b : ℕ) → b < boxCount m → (i : ℕ) → i < lineCount (boxAt m b) → lineAt (boxAt m b) i .type < 2 ^ 64
 
 -- what a line binds
 pub binds-iff : (l : Line) (n : ℕ)
@@ -187,9 +181,9 @@ bound-abroad m b i n c h t = simp or-iff (inl (any-iff b (λ c. bindsIn (boxAt m
 
 module _ (m : Model) (b i : ℕ) where
   -- 6
-  valid-site : siteAt (boxAt m b) i .type < 2 ^ 64 → T (siteFits m b i) → ValidSite m b i (siteAt (boxAt m b) i)
+  valid-site : T (siteFits m b i) → ValidSite m b i (siteAt (boxAt m b) i)
   unfolding siteFits typeFits
-  valid-site w t =
+  valid-site t =
       let p = simp (tests, forEach-iff, not-iff) at t in
       let s = siteAt (boxAt m b) i in
       record {
@@ -197,8 +191,8 @@ module _ (m : Model) (b i : ℕ) where
         free = p .0 .0 .0 .0 .1;
         flagFits = p .0 .0 .1;
         typeSize = record { some = p .1 .0 .0 .0; most = p .1 .0 .0 .1 };
-        typeListed = λ n u. p .1 .0 .1 n (has-below 64 (s .type) n w u) u .0;
-        typeFree = λ n u. p .1 .0 .1 n (has-below 64 (s .type) n w u) u .1;
+        typeListed = λ n q u. p .1 .0 .1 n q u .0;
+        typeFree = λ n q u. p .1 .0 .1 n q u .1;
         lacksSubject = p .1 .1;
         fresh = λ j h e. p .0 .0 .0 .1 (used-here m b i (s .subject) j h e);
         freshAbroad = λ c h j k e. p .0 .0 .0 .1 (used-abroad m b i (s .subject) c j h k e);
@@ -206,9 +200,9 @@ module _ (m : Model) (b i : ℕ) where
       }
 
   -- 7
-  valid-line : lineAt (boxAt m b) i .type < 2 ^ 64 → T (lineFits (m .kinds) (lineAt (boxAt m b) i)) → ValidLine m (lineAt (boxAt m b) i)
+  valid-line : T (lineFits (m .kinds) (lineAt (boxAt m b) i)) → ValidLine m (lineAt (boxAt m b) i)
   unfolding lineFits typeFits usesName1 usesName2 usesChild1
-  valid-line w t =
+  valid-line t =
       let p = simp (tests, forEach-iff, not-iff, or-iff) at t in
       let l = lineAt (boxAt m b) i in
       let named : 3 ≤ l .op → l .name1 < length (m .kinds) = p .0 .0 .0 .0 .0 .0 .0 .0 .0 .1 in
@@ -228,7 +222,7 @@ module _ (m : Model) (b i : ℕ) where
         exposeListed = λ e. named (omega arith);
         exposeKind = λ e. bound3 e .0;
         exposeSize = λ e. record { some = bound3 e .1 .0 .0 .0; most = bound3 e .1 .0 .0 .1 };
-        exposeType = λ e n u. bound3 e .1 .0 .1 n (has-below 64 (l .type) n w u) u;
+        exposeType = λ e. bound3 e .1 .0 .1;
         hideListed = λ e. named (omega arith);
         unhideListed = λ e. named (omega arith);
         exposeLacks = λ e. bound3 e .1 .1;
@@ -237,10 +231,10 @@ module _ (m : Model) (b i : ℕ) where
       }
 
   -- 9
-  valid-reach : lineAt (boxAt m b) i .type < 2 ^ 64 → length (m .kinds) ≤ 60 → b < boxCount m → i < lineCount (boxAt m b) → ValidLine m (lineAt (boxAt m b) i)
+  valid-reach : length (m .kinds) ≤ 60 → b < boxCount m → i < lineCount (boxAt m b) → ValidLine m (lineAt (boxAt m b) i)
       → T (reachFits m b i) → ValidReach m b i (lineAt (boxAt m b) i)
   unfolding reachFits _or_ _is_
-  valid-reach w few h k v t =
+  valid-reach few h k v t =
       let p = simp (tests, or-iff, not-iff) at t in
       let l = lineAt (boxAt m b) i in
       let reach : (n : ℕ) → n < 64 → T (uses l n) → (kind (m .kinds) n ≡ 0) ⊎ T (boundAbove (boxAt m b) i n) =
@@ -252,7 +246,7 @@ module _ (m : Model) (b i : ℕ) where
         outputChannel = λ e. channel output tt e (v .outputListed e);
         outputSent = λ e. reach (l .name2) (omega (arith, v .sentListed e)) (uses-sent l e);
         inputChannel = λ e. channel input tt e (v .inputListed e);
-        exposeReach = λ e n u. reach n (has-below 64 (l .type) n w u) (uses-type l n e u);
+        exposeReach = λ e n q u. reach n q (uses-type l n e u);
         hideReach = λ e. channel hide tt e (v .hideListed e);
         unhideReach = λ e. channel unhide tt e (v .unhideListed e);
         owned = λ n u. owner-is m n b h (bindsIn-iff (boxAt m b) n .1 (i, k, u))
@@ -284,24 +278,24 @@ pub record Counts (x : Box) : Type 0 where
   pub someLine : 1 ≤ lineCount x
   pub mostLines : lineCount x ≤ 124
 
-pub valid-of : (m : Model) → Words m → modelFault m ≡ none → length (m .kinds) ≤ 60 → ((n : ℕ) → kind (m .kinds) n ≤ 3) → boxCount m ≤ 8
+pub valid-of : (m : Model) → modelFault m ≡ none → length (m .kinds) ≤ 60 → ((n : ℕ) → kind (m .kinds) n ≤ 3) → boxCount m ≤ 8
     → ((b : ℕ) → b < boxCount m → Counts (boxAt m b)) → Valid m
-valid-of m words e few kinds boxes counts =
+valid-of m e few kinds boxes counts =
     let f = fits-iff m .0 e in
     record {
       names = few;
       kindsFit = kinds;
       mostBoxes = boxes;
       box = λ b h. let c = counts b h in
-          let line : (i : ℕ) → i < lineCount (boxAt m b) → ValidLine m (lineAt (boxAt m b) i) = λ i k. valid-line m b i (words .lines b h i k) (f .lines b h i k) in
+          let line : (i : ℕ) → i < lineCount (boxAt m b) → ValidLine m (lineAt (boxAt m b) i) = λ i k. valid-line m b i (f .lines b h i k) in
           record {
             someSite = c .someSite;
             mostSites = c .mostSites;
             someLine = c .someLine;
             mostLines = c .mostLines;
-            site = λ i k. valid-site m b i (words .sites b h i k) (f .sites b h i k);
+            site = λ i k. valid-site m b i (f .sites b h i k);
             line = line;
             tree = valid-tree (boxAt m b) (f .trees b h);
-            reach = λ i k. valid-reach m b i (words .lines b h i k) few h k (line i k) (f .reaches b h i k);
+            reach = λ i k. valid-reach m b i few h k (line i k) (f .reaches b h i k);
           };
     }

@@ -1,1 +1,5 @@
 pub mod Covers
+pub mod Rules
+pub mod Made
+pub mod Follow
+pub mod Rule3
