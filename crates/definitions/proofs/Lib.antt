@@ -10,3 +10,5 @@ pub mod Words
 pub mod Check
 pub mod Image
 pub mod ReadModel
+pub mod Clauses
+pub mod ShutOff
