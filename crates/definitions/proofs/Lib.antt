@@ -6,9 +6,10 @@ pub mod Arrays
 pub mod Faults
 pub mod Tree
 pub mod Valid
-pub mod Words
-pub mod Check
 pub mod Image
 pub mod ReadModel
 pub mod Clauses
 pub mod ShutOff
+pub mod Words
+pub mod Check
+pub mod Images
