@@ -2,3 +2,4 @@ pub mod Covers
 pub mod Rules
 pub mod Made
 pub mod KeepHeld
+pub mod TypeWords
