@@ -3,3 +3,5 @@ pub mod Rules
 pub mod Made
 pub mod KeepHeld
 pub mod TypeWords
+pub mod KeepSite
+pub mod KeepRecord
