@@ -40,6 +40,23 @@ module _ (r : List ℕ) (l : length r ≡ 1139) where
     pub put-thread-other : (u : ℕ) → u < 16 → u ≢ t → thread (putThread r t y) u ≡ thread r u
     put-thread-other u q n = slot-put-other 163 61 16 r (omega arith) t h y e u q n
 
+  -- the stamp
+
+  pub push-thread-stamp : threads r < 16 → (y : List ℕ) → length y ≡ 61 → stamp (pushThread r y) ≡ stamp r
+  push-thread-stamp h y e = push-outside 163 61 16 1 threads-apart r (omega arith) (omega arith) h y e 0 (omega arith) (inl (omega arith))
+
+  pub take-thread-stamp : (t : ℕ) → t < 16 → stamp (takeThread r t) ≡ stamp r
+  take-thread-stamp t h = take-outside 163 61 16 1 threads-apart r (omega arith) (omega arith) t h 0 (omega arith) (inl (omega arith))
+
+  pub put-site-stamp : (i : ℕ) → i < 16 → (y : List ℕ) → length y ≡ 10 → stamp (putSite r i y) ≡ stamp r
+  put-site-stamp i h y e = word-putSlot 3 10 16 r (omega arith) i h y e 0 (inl (omega arith))
+
+  pub push-site-stamp : sites r < 16 → (y : List ℕ) → length y ≡ 10 → stamp (pushSite r y) ≡ stamp r
+  push-site-stamp h y e = push-outside 3 10 16 2 sites-apart r (omega arith) (omega arith) h y e 0 (omega arith) (inl (omega arith))
+
+  pub push-site-length : sites r < 16 → (y : List ℕ) → length y ≡ 10 → length (pushSite r y) ≡ 1139
+  push-site-length h y e = push-length 3 10 16 2 sites-apart r (omega arith) (omega arith) h y e ∙ l
+
   module _ (v : ℕ) where
     pub set-stamp-length : length (setStamp r v) ≡ 1139
     set-stamp-length = length-set r 0 v ∙ l
@@ -115,20 +132,12 @@ module _ (m : Model) (last : ℕ → ℕ) (x : Box) (r : List ℕ) (k : RecordFi
       (push-outside 163 61 16 1 threads-apart r thread-room thread-count h y e)
       (push-array 163 61 16 1 threads-apart r thread-room thread-count _ (k .threadsFit) h y e (thread-iff m last x y .1 o))
 
-  pub push-thread-stamp : threads r < 16 → (y : List ℕ) → length y ≡ 61 → stamp (pushThread r y) ≡ stamp r
-  push-thread-stamp h y e =
-      push-outside 163 61 16 1 threads-apart r thread-room thread-count h y e 0 (omega arith) (inl (omega arith))
-
   pub take-thread-keeps : (t : ℕ) → t < threads r → RecordFits m last x (takeThread r t)
   take-thread-keeps t h =
       let b : t < 16 = omega (arith, k .threadsFit .most) in
       edit-threads _ (take-length 163 61 16 1 threads-apart r thread-room thread-count t b)
       (take-outside 163 61 16 1 threads-apart r thread-room thread-count t b)
       (take-array 163 61 16 1 threads-apart r thread-room thread-count _ (k .threadsFit) t h)
-
-  pub take-thread-stamp : (t : ℕ) → t < 16 → stamp (takeThread r t) ≡ stamp r
-  take-thread-stamp t h =
-      take-outside 163 61 16 1 threads-apart r thread-room thread-count t h 0 (omega arith) (inl (omega arith))
 
   pub push-site-keeps : sites r < 16 → (y : List ℕ) → SiteFits m last y → ((i : ℕ) → i < sites r → subject (site r i) ≢ subject y)
       → RecordFits m last x (pushSite r y)
@@ -140,9 +149,6 @@ module _ (m : Model) (last : ℕ → ℕ) (x : Box) (r : List ℕ) (k : RecordFi
       (push-array 3 10 16 2 sites-apart r site-room site-count _ (k .sitesFit) h y e (site-iff m last y .1 o))
       (differ-push (k .differ) _ _ (push-count 3 10 16 2 sites-apart r site-room site-count h y e) (λ i a. q i (omega arith) (omega arith))
       (λ i a. rw (push-same 3 10 16 2 sites-apart r site-room site-count h y e) (d i a)))
-
-  pub push-site-stamp : sites r < 16 → (y : List ℕ) → length y ≡ 10 → stamp (pushSite r y) ≡ stamp r
-  push-site-stamp h y e = push-outside 3 10 16 2 sites-apart r site-room site-count h y e 0 (omega arith) (inl (omega arith))
 
   -- a site is put where one with the same subject stood
   pub put-site-keeps : (i : ℕ) → i < sites r → (y : List ℕ) → SiteFits m last y → subject y ≡ subject (site r i)
@@ -159,9 +165,6 @@ module _ (m : Model) (last : ℕ → ℕ) (x : Box) (r : List ℕ) (k : RecordFi
       after : (j : ℕ) → j < 16 → i < 16 → length y ≡ 10 → Dec (i ≡ j) → subject (site (putSite r i y) j) ≡ subject (site r j)
       after j q b e (yes z) = rw (← z) (ap subject (slot-put-same 3 10 16 r site-room i b y e) ∙ same)
       after j q b e (no f) = ap subject (slot-put-other 3 10 16 r site-room i b y e j q (omega arith))
-
-  pub put-site-stamp : (i : ℕ) → i < 16 → (y : List ℕ) → length y ≡ 10 → stamp (putSite r i y) ≡ stamp r
-  put-site-stamp i h y e = word-putSlot 3 10 16 r site-room i h y e 0 (inl (omega arith))
 
   -- stamps go up: those of the other boxes, and this record's own
   pub record-up : (next : ℕ → ℕ) → ((b : ℕ) → last b ≤ next b) → RecordFits m next x r

@@ -5,3 +5,5 @@ pub mod KeepHeld
 pub mod TypeWords
 pub mod KeepSite
 pub mod KeepRecord
+pub mod KeepMoves
+pub mod KeepState
