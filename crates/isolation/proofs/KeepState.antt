@@ -74,3 +74,41 @@ put-fits m valid st k b hb r kept = record {
     pick-live c q live (no z) =
         rw (put-record-other st l b h r e c q (omega arith))
         (record-up m (lastStamps st) (boxAt m c) (recordOf st c) (k .live c q live) (lastStamps (putRecord st b r)) (λ d. grows d (ℕ-discrete b d)))
+
+-- ---- a made move
+
+module _ (m : Model) (valid : Valid m) (st : List ℕ) (k : StateFits m st) where
+  record-fits : (b : ℕ) → b < boxCount m → RecordFits m (lastStamps st) (boxAt m b) (recordOf st b)
+  record-fits b h = k .live b (omega (arith, valid .mostBoxes)) h
+
+  inside-fits : (i : Inside) (b t u : ℕ) (w : List ℕ) → InsideMade m st i b t u w → StateFits m w
+  unfolding lastStamps
+  inside-fits i b t u w a =
+      rw (a .leaves)
+      (put-fits m valid st k b (a .box) (a .new)
+      (inside-kept m valid b (a .box) (lastStamps st) (recordOf st b) (record-fits b (a .box)) refl i t u (a .new) (a .makes)))
+
+  -- the input end first, then the output end in the state that this leaves
+  inter-fits : (b t c u : ℕ) (w : List ℕ) → InterActMade m st b t c u w → StateFits m w
+  inter-fits b t c u w a =
+      let hb = a .box in
+      let hc = a .box2 in
+      let i = inter-made (m .kinds) (boxAt m b) (recordOf st b) (boxAt m c) (recordOf st c) t u (a .ends) (a .makes) in
+      let sent = sent-fits m valid c hc (lastStamps st) (recordOf st c) (record-fits c hc) u (a .live2) (i .opIs2) in
+      let one : Kept m (lastStamps st) b (recordOf st b) (a .ends .input) =
+      rw (i .inputLeaves) (receive-kept m valid b hb (lastStamps st) (recordOf st b) (record-fits b hb) t (a .live) (i .opIs) _ sent) in
+      let first = putRecord st b (a .ends .input) in
+      let k1 = put-fits m valid st k b hb (a .ends .input) one in
+      let low : b < 8 = omega (arith, valid .mostBoxes) in
+      let low2 : c < 8 = omega (arith, valid .mostBoxes) in
+      let same : recordOf first c ≡ recordOf st c = put-record-other st (k .size) b low (a .ends .input) (one .size) c low2 (let f = a .differ in omega arith) in
+      let fits : RecordFits m (lastStamps first) (boxAt m c) (recordOf st c) = rw same at (k1 .live c low2 hc) in
+      rw (a .leaves)
+      (put-fits m valid first k1 c hc (a .ends .output)
+      (rw (same, i .outputLeaves) (send-kept m valid c hc (lastStamps first) (recordOf st c) fits u (a .live2) (i .opIs2))))
+
+-- P2: every made move keeps the state rules
+pub act-fits : (m : Model) → Valid m → (st : List ℕ) → StateFits m st → (v : Move) (w : List ℕ) → act m st v ≡ made w → StateFits m w
+act-fits m valid st k v w e =
+    act-made m st (StateFits m) v w e (λ i a. inside-fits m valid st k i (v .box) (v .thread) (v .thread2) w a)
+    (λ a. inter-fits m valid st k (v .box) (v .thread) (v .box2) (v .thread2) w a)
