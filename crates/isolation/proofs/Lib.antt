@@ -1,6 +1,8 @@
 pub mod Covers
 pub mod Rules
 pub mod Made
+pub mod Follow
+pub mod Rule3
 pub mod KeepHeld
 pub mod TypeWords
 pub mod KeepSite
