@@ -9,3 +9,4 @@ pub mod KeepSite
 pub mod KeepRecord
 pub mod KeepMoves
 pub mod KeepState
+pub mod StartFits
