@@ -1,27 +1,26 @@
 -- What is held stays in order while stamps go up; what a name stands for is in order; a thread that goes on to a child stays in order.
 -- Assumes nothing.
-use mathlib.Core.Path.{_≡_, refl, ap, subst, sym, _∙_}
-use mathlib.Core.Logic.{_⊎_, inl, inr, _≢_, ⊎-elim}
-use mathlib.Core.Bool.{Bool, true, false}
+use mathlib.Core.Path.{_≡_, refl, _∙_}
+use mathlib.Core.Logic.{_⊎_, inl, inr, _≢_}
+use mathlib.Core.Bool.{true, false}
 use mathlib.Core.List.{List}
-use mathlib.Core.Option.{Option, none, some}
-use Prim.Native.Nat.{ℕ, suc, _+_, _≤_, _<_}
+use mathlib.Core.Option.{some}
+use Prim.Native.Nat.{ℕ, _+_, _≤_, _<_}
 use native.Mathlib.Nat.{le-trans}
 use native.Mathlib.Omega.{arith}
 use native.Mathlib.Decide.{ℕ-discrete}
 use lib.Dec.{T}
-use lib.ListN.{length, set, length-set}
+use lib.ListN.{length, length-set}
 use lib.Seq.{getD-set-same, getD-set-other}
 use Rattle.definitions.specs.Bounded.{_and_, _or_, _is_}
-use Rattle.definitions.specs.Slots.{word}
 use Rattle.definitions.specs.Model.{Line, Box, Model, lineCount, kind, restriction, input, expose, binds, boundAbove, owner}
-use Rattle.definitions.specs.Record.{held, heldNumber, heldStamp, subject, typeWord, flag, line, binding, goto, bind}
+use Rattle.definitions.specs.Record.{held, heldNumber, heldStamp, subject, typeWord, line, binding, goto, bind}
 use Rattle.definitions.specs.Start.{freeHeld}
 use Rattle.definitions.specs.StateRules.{siteHeld, threadHeld}
 use Rattle.definitions.specs.Moves.{valueIn}
-use Rattle.definitions.proofs.Bounded.{is-iff, decide, true-of, of-true, false-of, not-false}
+use Rattle.definitions.proofs.Bounded.{is-iff, decide, true-of, false-of}
 use Rattle.definitions.proofs.Sets.{or-false}
-use Rattle.isolation.proofs.Rules.{HeldFits, SiteFits, ThreadFits, site-iff, thread-iff}
+use Rattle.isolation.proofs.Rules.{HeldFits, ThreadFits, site-iff, thread-iff}
 
 -- ---- a held name's number and stamp
 

@@ -1,27 +1,26 @@
 -- A move that is made keeps the rules of the record that it changes. Assumes nothing.
 use mathlib.Core.Path.{_≡_, refl, ap, subst, sym, _∙_}
 use mathlib.Core.Logic.{_⊎_, inl, inr, _≢_}
-use mathlib.Core.Bool.{Bool, true, false}
-use mathlib.Core.List.{List, [], _∷_}
-use mathlib.Core.Option.{Option, none, some}
+use mathlib.Core.Bool.{Bool}
+use mathlib.Core.List.{List, _∷_}
+use mathlib.Core.Option.{some}
 use Prim.Native.Nat.{ℕ, suc, _+_, _≤_, _<_}
-use native.Mathlib.Nat.{le-refl, le-of-eq}
+use native.Mathlib.Nat.{le-of-eq}
 use native.Mathlib.Omega.{arith}
 use lib.Dec.{T}
 use lib.ListN.{length, length-set}
 use lib.Seq.{getD-set-other}
 use Rattle.definitions.specs.Bounded.{_or_, _is_}
 use Rattle.definitions.specs.Sets.{has}
-use Rattle.definitions.specs.Slots.{word}
-use Rattle.definitions.specs.Model.{Line, Box, Model, lineAt, boxAt, lineCount, boxCount, kind, nil, parallel, replication, restriction, output as opOutput, input as opInput, expose as opExpose, hide as opHide, unhide as opUnhide, binds, boundAbove, owner}
-use Rattle.definitions.specs.Record.{held, heldNumber, heldStamp, stampLimit, stamp, threads, sites, site, thread, subject, line, setStamp, putThread, pushThread, takeThread, putSite, pushSite, setFlag, goto, bind}
+use Rattle.definitions.specs.Model.{Line, Model, boxAt, boxCount, kind, nil, parallel, replication, restriction, output as opOutput, input as opInput, expose as opExpose, hide as opHide, unhide as opUnhide, binds, boundAbove, owner}
+use Rattle.definitions.specs.Record.{held, stampLimit, stamp, threads, sites, site, thread, subject, line, setStamp, putThread, pushThread, takeThread, putSite, pushSite, setFlag, goto, bind}
 use Rattle.definitions.specs.Start.{typeWords}
 use Rattle.definitions.specs.Moves.{Inside, drop, spread, new, copy, expose, hide, unhide, intra, made, valueIn, lineOf, onward, onwardWith, value2, insideMove}
 use Rattle.definitions.proofs.Bounded.{is-iff, of-true, true-of}
 use Rattle.definitions.proofs.Valid.{Valid, ValidLine, ValidTree, ValidReach}
-use Rattle.isolation.proofs.Rules.{HeldFits, SiteFits, ThreadFits, RecordFits, site-iff, thread-iff}
-use Rattle.isolation.proofs.Made.{AtLine, SiteFound, IntraMade, drop-made, spread-made, new-made, copy-made, expose-made, turn-made, intra-made}
-use Rattle.isolation.proofs.KeepHeld.{number-held, stamp-held, held-up, made-fits, threadFits-up, binds-none, binds-restriction, binds-expose, binds-input, value-fits, goto-fits, bind-fits}
+use Rattle.isolation.proofs.Rules.{HeldFits, ThreadFits, RecordFits, site-iff, thread-iff}
+use Rattle.isolation.proofs.Made.{SiteFound, IntraMade, drop-made, spread-made, new-made, copy-made, expose-made, turn-made, intra-made}
+use Rattle.isolation.proofs.KeepHeld.{number-held, stamp-held, held-up, made-fits, binds-none, binds-restriction, binds-expose, binds-input, value-fits, goto-fits, bind-fits}
 use Rattle.isolation.proofs.TypeWords.{length-typeWords}
 use Rattle.isolation.proofs.KeepSite.{site-fits, turned-fits}
 use Rattle.isolation.proofs.KeepRecord.{put-thread-length, put-thread-word, put-thread-site, set-stamp-length, set-stamp-same, set-stamp-word, set-stamp-site, put-thread-keeps, push-thread-keeps, push-thread-stamp, take-thread-keeps, take-thread-stamp, push-site-keeps, push-site-stamp, push-site-length, put-site-keeps, put-site-stamp, record-up, set-stamp-keeps}
@@ -48,8 +47,8 @@ module _ (m : Model) (valid : Valid m) (b : ℕ) (hb : b < boxCount m) (last : �
   -- ---- thread t and its line
 
   module _ (t : ℕ) (h : t < threads r) where
-    low : t < 16
-    low = omega (arith, k .threadsFit .most)
+    thread-low : t < 16
+    thread-low = omega (arith, k .threadsFit .most)
 
     here : ThreadFits m last (boxAt m b) (thread r t)
     here = thread-iff m last (boxAt m b) (thread r t) .0 (k .threadsFit .live t h)
@@ -106,7 +105,7 @@ module _ (m : Model) (valid : Valid m) (b : ℕ) (hb : b < boxCount m) (last : �
   -- ---- the moves
 
   drop-kept : (t : ℕ) → t < threads r → Kept m last b r (takeThread r t)
-  drop-kept t h = kept-same m last b r _ (take-thread-keeps m last (boxAt m b) r k t h) (take-thread-stamp r (k .size) t (low t h))
+  drop-kept t h = kept-same m last b r _ (take-thread-keeps m last (boxAt m b) r k t h) (take-thread-stamp r (k .size) t (thread-low t h))
 
   spread-kept : (t : ℕ) → t < threads r → threads r < 16 → lineFor m b r t .op ≡ parallel
       → Kept m last b r (pushThread (putThread r t (onward (m .kinds) (boxAt m b) r t)) (goto (thread r t) (lineFor m b r t .child2)))
@@ -114,7 +113,7 @@ module _ (m : Model) (valid : Valid m) (b : ℕ) (hb : b < boxCount m) (last : �
       let one = onward-fits t h (omega arith) (omega arith) (omega arith) (omega arith) in
       let two = second-fits t h (omega arith) (omega arith) (omega arith) e in
       let s = putThread r t (onward (m .kinds) (boxAt m b) r t) in
-      let same = put-thread-word r (k .size) t (low t h) (onward (m .kinds) (boxAt m b) r t) (one .size) in
+      let same = put-thread-word r (k .size) t (thread-low t h) (onward (m .kinds) (boxAt m b) r t) (one .size) in
       let k1 = put-thread-keeps m last (boxAt m b) r k t h _ one in
       let more : threads s < 16 = omega (arith, same 1 (omega arith)) in
       kept-same m last b r _ (push-thread-keeps m last (boxAt m b) s k1 more _ two)
@@ -128,7 +127,7 @@ module _ (m : Model) (valid : Valid m) (b : ℕ) (hb : b < boxCount m) (last : �
   -- the thread goes on: after a line that binds nothing, and after an input
   onward-kept : (t : ℕ) → t < threads r → (y : List ℕ) → ThreadFits m last (boxAt m b) y → Kept m last b r (putThread r t y)
   onward-kept t h y o =
-      kept-same m last b r _ (put-thread-keeps m last (boxAt m b) r k t h y o) (put-thread-word r (k .size) t (low t h) y (o .size) 0 (omega arith))
+      kept-same m last b r _ (put-thread-keeps m last (boxAt m b) r k t h y o) (put-thread-word r (k .size) t (thread-low t h) y (o .size) 0 (omega arith))
 
   received-fits : (t : ℕ) (h : t < threads r) → lineFor m b r t .op ≡ opInput → (v : ℕ) → HeldFits m last v
       → ThreadFits m last (boxAt m b) (onwardWith (m .kinds) (boxAt m b) r t (lineFor m b r t .name2) v)
@@ -149,11 +148,11 @@ module _ (m : Model) (valid : Valid m) (b : ℕ) (hb : b < boxCount m) (last : �
       let gone = onward-fits u (i .live2) (omega arith) (omega arith) (omega arith) (omega arith) in
       let y = onwardWith (m .kinds) (boxAt m b) r t (lineFor m b r t .name2) (value2 (m .kinds) (boxAt m b) r u) in
       let k1 = put-thread-keeps m last (boxAt m b) r k t (i .live) y got in
-      let same = put-thread-word r (k .size) t (low t (i .live)) y (got .size) in
+      let same = put-thread-word r (k .size) t (thread-low t (i .live)) y (got .size) in
       let live : u < threads (putThread r t y) = omega (arith, same 1 (omega arith), i .live2) in
       rw (i .leaves)
       (kept-same m last b r _ (put-thread-keeps m last (boxAt m b) (putThread r t y) k1 u live _ gone)
-      (put-thread-word (putThread r t y) (k1 .size) u (low u (i .live2)) _ (gone .size) 0 (omega arith) ∙ same 0 (omega arith)))
+      (put-thread-word (putThread r t y) (k1 .size) u (thread-low u (i .live2)) _ (gone .size) 0 (omega arith) ∙ same 0 (omega arith)))
 
   -- hide and unhide
   turn-kept : (t i v before after : ℕ) → t < threads r → (lineFor m b r t .op ≡ opHide) ⊎ (lineFor m b r t .op ≡ opUnhide) → after ≤ 1 → SiteFound r v before i
@@ -161,10 +160,10 @@ module _ (m : Model) (valid : Valid m) (b : ℕ) (hb : b < boxCount m) (last : �
   turn-kept t i v before after h e a f =
       let one = stays e in
       let s = putThread r t (onward (m .kinds) (boxAt m b) r t) in
-      let same = put-thread-word r (k .size) t (low t h) (onward (m .kinds) (boxAt m b) r t) (one .size) in
+      let same = put-thread-word r (k .size) t (thread-low t h) (onward (m .kinds) (boxAt m b) r t) (one .size) in
       let k1 = put-thread-keeps m last (boxAt m b) r k t h _ one in
       let y = setFlag (site r i) after in
-      let site-is = put-thread-site r (k .size) t (low t h) (onward (m .kinds) (boxAt m b) r t) (one .size) i (f .low) in
+      let site-is = put-thread-site r (k .size) t (thread-low t h) (onward (m .kinds) (boxAt m b) r t) (one .size) i (f .low) in
       let old = site-iff m last (site r i) .0 (k .sitesFit .live i (f .live)) in
       let fits = turned-fits m last (site r i) after a old in
       let live : i < sites s = omega (arith, same 2 (omega arith), f .live) in
@@ -178,106 +177,128 @@ module _ (m : Model) (valid : Valid m) (b : ℕ) (hb : b < boxCount m) (last : �
 
 -- ---- a new stamp
 
-module _ (m : Model) (valid : Valid m) (b : ℕ) (hb : b < boxCount m) (last : ℕ → ℕ) (r : List ℕ) (k : RecordFits m last (boxAt m b) r) (t : ℕ) (h : t < threads r) (n : ℕ) where
-  low-thread : t < 16
-  low-thread = low m valid b hb last r k t h
+-- a line that makes a name: it binds a listed name of kind 1 or 3, and only that
+record Makes (m : Model) (l : Line) : Type 0 where
+  goesOn : l .op ≢ nil
+  listed : l .name1 < length (m .kinds)
+  notReceived : kind (m .kinds) (l .name1) ≢ 2
+  notFree : kind (m .kinds) (l .name1) ≢ 0
+  only : (n : ℕ) → binds l n ≡ (l .name1 is n)
 
-  length-onwardWith : (v : ℕ) → length (onwardWith (m .kinds) (boxAt m b) r t n v) ≡ 61
-  unfolding onwardWith
-  length-onwardWith v =
-      length-set (bind (thread r t) n v) 0 (lineFor m b r t .child1) ∙ length-set (thread r t) (1 + n) v ∙ here m valid b hb last r k t h .size
+restriction-makes : (m : Model) (l : Line) → ValidLine m l → l .op ≡ restriction → Makes m l
+restriction-makes m l v e =
+    let k = v .restrictKind e in
+    record { goesOn = omega arith; listed = v .restrictListed e; notReceived = omega arith; notFree = omega arith; only = binds-restriction l e }
 
-  stamped-length : (v s : ℕ) → length (putThread (setStamp r s) t (onwardWith (m .kinds) (boxAt m b) r t n v)) ≡ 1139
-  stamped-length v s = put-thread-length (setStamp r s) (set-stamp-length r (k .size) s) t low-thread _ (length-onwardWith v)
+expose-makes : (m : Model) (l : Line) → ValidLine m l → l .op ≡ opExpose → Makes m l
+expose-makes m l v e =
+    let k = v .exposeKind e in
+    record { goesOn = omega arith; listed = v .exposeListed e; notReceived = omega arith; notFree = omega arith; only = binds-expose l e }
 
-  -- the words before the threads, but for the stamp, are as they were
-  stamped-word : (v s j : ℕ) → j < 163 → j ≢ 0 → word (putThread (setStamp r s) t (onwardWith (m .kinds) (boxAt m b) r t n v)) j ≡ word r j
-  stamped-word v s j l f =
-      put-thread-word (setStamp r s) (set-stamp-length r (k .size) s) t low-thread _ (length-onwardWith v) j l ∙ set-stamp-word r (k .size) s j f
+-- the name that is made, held with the next stamp; the thread that goes on with it; the record with that stamp and that thread
+abbrev newHeld : Model → ℕ → List ℕ → ℕ → ℕ
+newHeld m b r t = held (lineFor m b r t .name1) (stamp r + 1)
 
-  stamped-stamp : (v s : ℕ) → stamp (putThread (setStamp r s) t (onwardWith (m .kinds) (boxAt m b) r t n v)) ≡ s
-  stamped-stamp v s =
-      put-thread-word (setStamp r s) (set-stamp-length r (k .size) s) t low-thread _ (length-onwardWith v) 0 (omega arith) ∙ set-stamp-same r (k .size) s
+abbrev goneOn : Model → ℕ → List ℕ → ℕ → List ℕ
+goneOn m b r t = onwardWith (m .kinds) (boxAt m b) r t (lineFor m b r t .name1) (newHeld m b r t)
 
-  stamped-site : (v s i : ℕ) → i < 16 → site (putThread (setStamp r s) t (onwardWith (m .kinds) (boxAt m b) r t n v)) i ≡ site r i
-  stamped-site v s i l =
-      put-thread-site (setStamp r s) (set-stamp-length r (k .size) s) t low-thread _ (length-onwardWith v) i l ∙ set-stamp-site r (k .size) s i l
-
-  -- the line binds n, a made name: a held name of n with the new stamp is in order, and no site has it as its subject
-  module _ (low-name : n < length (m .kinds)) (notReceived : kind (m .kinds) n ≢ 2) (notFree : kind (m .kinds) n ≢ 0) (binds-it : (i : ℕ) → binds (lineFor m b r t) i ≡ (n is i)) (room : stamp r < stampLimit) where
-    owned : owner m n ≡ some b
-    owned = line-reach m valid b hb last r k t h .owned n (of-true (binds-it n ∙ true-of (n is n) (is-iff n n .1 refl)))
-
-    name64 : n < 64
-    name64 = omega (arith, valid .names)
-
-    module _ (next : ℕ → ℕ) (up : (c : ℕ) → last c ≤ next c) (here-next : next b ≡ stamp r + 1) where
-      new-name : HeldFits m next (held n (stamp r + 1))
-      new-name = made-fits m next n (stamp r + 1) b name64 low-name notReceived notFree owned (omega arith) (omega arith)
-
-      stamped-fits : lineFor m b r t .op ≢ nil
-          → RecordFits m next (boxAt m b) (putThread (setStamp r (stamp r + 1)) t (onwardWith (m .kinds) (boxAt m b) r t n (held n (stamp r + 1))))
-      stamped-fits e =
-          let k1 = record-up m last (boxAt m b) r k next up in
-          put-thread-keeps m next (boxAt m b) (setStamp r (stamp r + 1)) (set-stamp-keeps m next (boxAt m b) r k1 (stamp r + 1) (omega arith)) t
-          (rw (set-stamp-word r (k .size) (stamp r + 1) 1 (omega arith)) h) _
-          (onwardWith-fits m valid b hb next r k1 t h n (held n (stamp r + 1)) e binds-it low-name new-name)
-
-    fresh : last b ≡ stamp r → (i : ℕ) → i < sites r → subject (site r i) ≢ held n (stamp r + 1)
-    fresh e i l q =
-        let f = subst (λ (v : ℕ). HeldFits m last v) q (site-iff m last (site r i) .0 (k .sitesFit .live i l) .subjectFits) in
-        let x = (rw (number-held n (stamp r + 1) name64, stamp-held n (stamp r + 1) name64) at (f .made)) notFree in
-        let c : x .0 ≡ b = cc (x .1, owned) in
-        let up : stamp r + 1 ≤ last b = subst (λ (j : ℕ). stamp r + 1 ≤ last j) c (x .3) in
-        omega arith
+abbrev stamped : Model → ℕ → List ℕ → ℕ → List ℕ
+stamped m b r t = putThread (setStamp r (stamp r + 1)) t (goneOn m b r t)
 
 module _ (m : Model) (valid : Valid m) (b : ℕ) (hb : b < boxCount m) (last : ℕ → ℕ) (r : List ℕ) (k : RecordFits m last (boxAt m b) r) (t : ℕ) (h : t < threads r) where
-  new-kept : stamp r < stampLimit → lineFor m b r t .op ≡ restriction
-      → Kept m last b r (putThread (setStamp r (stamp r + 1)) t (onwardWith (m .kinds) (boxAt m b) r t (lineFor m b r t .name1) (held (lineFor m b r t .name1) (stamp r + 1))))
-  new-kept room e =
+  t16 : t < 16
+  t16 = thread-low m valid b hb last r k t h
+
+  next-length : length (setStamp r (stamp r + 1)) ≡ 1139
+  next-length = set-stamp-length r (k .size) (stamp r + 1)
+
+  goneOn-length : length (goneOn m b r t) ≡ 61
+  unfolding onwardWith
+  goneOn-length =
       let n = lineFor m b r t .name1 in
-      let v = held n (stamp r + 1) in
-      let good = line-valid m valid b hb last r k t h in
-      let kind1 = good .restrictKind e in
-      let stamp-is = stamped-stamp m valid b hb last r k t h n v (stamp r + 1) in
+      length-set (bind (thread r t) n (newHeld m b r t)) 0 (lineFor m b r t .child1) ∙ length-set (thread r t) (1 + n) (newHeld m b r t)
+      ∙ here m valid b hb last r k t h .size
+
+  stamped-length : length (stamped m b r t) ≡ 1139
+  stamped-length = put-thread-length (setStamp r (stamp r + 1)) next-length t t16 (goneOn m b r t) goneOn-length
+
+  stamped-stamp : stamp (stamped m b r t) ≡ stamp r + 1
+  stamped-stamp =
+      put-thread-word (setStamp r (stamp r + 1)) next-length t t16 (goneOn m b r t) goneOn-length 0 (omega arith)
+      ∙ set-stamp-same r (k .size) (stamp r + 1)
+
+  stamped-sites : sites (stamped m b r t) ≡ sites r
+  stamped-sites =
+      put-thread-word (setStamp r (stamp r + 1)) next-length t t16 (goneOn m b r t) goneOn-length 2 (omega arith)
+      ∙ set-stamp-word r (k .size) (stamp r + 1) 2 (omega arith)
+
+  stamped-site : (i : ℕ) → i < 16 → site (stamped m b r t) i ≡ site r i
+  stamped-site i l =
+      put-thread-site (setStamp r (stamp r + 1)) next-length t t16 (goneOn m b r t) goneOn-length i l
+      ∙ set-stamp-site r (k .size) (stamp r + 1) i l
+
+  module _ (makes : Makes m (lineFor m b r t)) where
+    made64 : lineFor m b r t .name1 < 64
+    made64 = omega (arith, valid .names, makes .listed)
+
+    made-owned : owner m (lineFor m b r t .name1) ≡ some b
+    made-owned =
+        let n = lineFor m b r t .name1 in
+        line-reach m valid b hb last r k t h .owned n (of-true (makes .only n ∙ true-of (n is n) (is-iff n n .1 refl)))
+
+    -- under stamps that count the new one
+    module _ (next : ℕ → ℕ) (up : (c : ℕ) → last c ≤ next c) (counted : next b ≡ stamp r + 1) where
+      new-fits : HeldFits m next (newHeld m b r t)
+      new-fits =
+          made-fits m next (lineFor m b r t .name1) (stamp r + 1) b made64 (makes .listed) (makes .notReceived) (makes .notFree) made-owned (omega arith)
+          (omega arith)
+
+      stamped-fits : stamp r < stampLimit → RecordFits m next (boxAt m b) (stamped m b r t)
+      stamped-fits room =
+          let k1 = record-up m last (boxAt m b) r k next up in
+          put-thread-keeps m next (boxAt m b) (setStamp r (stamp r + 1)) (set-stamp-keeps m next (boxAt m b) r k1 (stamp r + 1) (omega arith)) t
+          (rw (set-stamp-word r (k .size) (stamp r + 1) 1 (omega arith)) h) (goneOn m b r t)
+          (onwardWith-fits m valid b hb next r k1 t h (lineFor m b r t .name1) (newHeld m b r t) (makes .goesOn) (makes .only) (makes .listed) new-fits)
+
+    -- a site's subject has a stamp up to the box's last one, so none is the new name
+    fresh : last b ≡ stamp r → (i : ℕ) → i < sites r → subject (site r i) ≢ newHeld m b r t
+    fresh e i l q =
+        let n = lineFor m b r t .name1 in
+        let f = subst (HeldFits m last) q (site-iff m last (site r i) .0 (k .sitesFit .live i l) .subjectFits) in
+        let x = (rw (number-held n (stamp r + 1) made64, stamp-held n (stamp r + 1) made64) at (f .made)) (makes .notFree) in
+        let c : x .0 ≡ b = cc (x .1, made-owned) in
+        let most : stamp r + 1 ≤ last b = subst (λ (j : ℕ). stamp r + 1 ≤ last j) c (x .3) in
+        omega arith
+
+  new-kept : stamp r < stampLimit → lineFor m b r t .op ≡ restriction → Kept m last b r (stamped m b r t)
+  new-kept room e =
+      let makes = restriction-makes m (lineFor m b r t) (line-valid m valid b hb last r k t h) e in
       record {
-        size = stamped-length m valid b hb last r k t h n v (stamp r + 1);
-        grows = rw stamp-is (omega arith);
-        fits = λ next up q. stamped-fits m valid b hb last r k t h n (good .restrictListed e) (omega arith) (omega arith) (binds-restriction (lineFor m b r t) e) room next up (q ∙ stamp-is) (omega arith);
+        size = stamped-length;
+        grows = rw stamped-stamp (omega arith);
+        fits = λ next up q. stamped-fits makes next up (q ∙ stamped-stamp) room;
       }
 
-  -- the new site's subject has the new stamp, so no other site has it
   expose-kept : last b ≡ stamp r → sites r < 16 → stamp r < stampLimit → lineFor m b r t .op ≡ opExpose
-      → Kept m last b r (pushSite (putThread (setStamp r (stamp r + 1)) t (onwardWith (m .kinds) (boxAt m b) r t (lineFor m b r t .name1) (held (lineFor m b r t .name1) (stamp r + 1))))
-      (held (lineFor m b r t .name1) (stamp r + 1) ∷ 0 ∷ typeWords (valueIn (m .kinds) (thread r t)) (lineFor m b r t .type)))
-  expose-kept lastHere more room e =
-      let n = lineFor m b r t .name1 in
-      let v = held n (stamp r + 1) in
+      → Kept m last b r (pushSite (stamped m b r t) (newHeld m b r t ∷ 0 ∷ typeWords (valueIn (m .kinds) (thread r t)) (lineFor m b r t .type)))
+  expose-kept counted more room e =
       let good = line-valid m valid b hb last r k t h in
-      let kind3 = good .exposeKind e in
-      let listed = good .exposeListed e in
+      let makes = expose-makes m (lineFor m b r t) good e in
       let hold = valueIn (m .kinds) (thread r t) in
-      let s = putThread (setStamp r (stamp r + 1)) t (onwardWith (m .kinds) (boxAt m b) r t n v) in
-      let y = v ∷ 0 ∷ typeWords hold (lineFor m b r t .type) in
-      let s-length = stamped-length m valid b hb last r k t h n v (stamp r + 1) in
+      let s = stamped m b r t in
+      let y = newHeld m b r t ∷ 0 ∷ typeWords hold (lineFor m b r t .type) in
       let y-length : length y ≡ 10 = ap (λ (j : ℕ). suc (suc j)) (length-typeWords hold (lineFor m b r t .type)) in
-      let sites-are : sites s ≡ sites r = stamped-word m valid b hb last r k t h n v (stamp r + 1) 2 (omega arith) (omega arith) in
-      let more-s : sites s < 16 = omega arith in
-      let stamp-is : stamp (pushSite s y) ≡ stamp r + 1 = push-site-stamp s s-length more-s y y-length ∙ stamped-stamp m valid b hb last r k t h n v (stamp r + 1) in
-      let differs : (i : ℕ) → i < sites s → subject (site s i) ≢ v =
-      λ i l. rw (stamped-site m valid b hb last r k t h n v (stamp r + 1) i (omega arith))
-      (fresh m valid b hb last r k t h n listed (omega arith) (omega arith) (binds-expose (lineFor m b r t) e) room lastHere i (omega arith)) in
+      let more-sites : sites s < 16 = omega (arith, stamped-sites) in
+      let stamp-is : stamp (pushSite s y) ≡ stamp r + 1 = push-site-stamp s stamped-length more-sites y y-length ∙ stamped-stamp in
       record {
-        size = push-site-length s s-length more-s y y-length;
+        size = push-site-length s stamped-length more-sites y y-length;
         grows = rw stamp-is (omega arith);
         fits = λ next up q.
-            let v-fits = new-name m valid b hb last r k t h n listed (omega arith) (omega arith) (binds-expose (lineFor m b r t) e) room next up (q ∙ stamp-is) in
-            push-site-keeps m next (boxAt m b) s
-            (stamped-fits m valid b hb last r k t h n listed (omega arith) (omega arith) (binds-expose (lineFor m b r t) e) room next up (q ∙ stamp-is) (omega arith))
-            more-s y
-            (site-fits m next v 0 hold (lineFor m b r t .type) v-fits (inr (rw (number-held n (stamp r + 1) (omega (arith, valid .names))) kind3)) (omega arith) (good .exposeSize e)
+            push-site-keeps m next (boxAt m b) s (stamped-fits makes next up (q ∙ stamp-is) room) more-sites y
+            (site-fits m next (newHeld m b r t) 0 hold (lineFor m b r t .type) (new-fits makes next up (q ∙ stamp-is))
+            (inr (rw (number-held (lineFor m b r t .name1) (stamp r + 1) (made64 makes)) (good .exposeKind e))) (omega arith) (good .exposeSize e)
             (λ i l j. held-up m last next up (hold i) (type-fits m valid b hb last r k t h e i j)))
-            differs;
+            (λ i l. rw (stamped-site i (omega arith)) (fresh makes counted i (omega (arith, stamped-sites))));
       }
 
 -- ---- every move inside a box

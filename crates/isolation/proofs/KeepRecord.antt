@@ -1,14 +1,13 @@
 -- The edits of a record keep its rules. Assumes nothing.
-use mathlib.Core.Path.{_≡_, refl, ap, subst, sym, _∙_}
-use mathlib.Core.Logic.{_⊎_, inl, inr, _≢_}
+use mathlib.Core.Path.{_≡_, ap, sym, _∙_}
+use mathlib.Core.Logic.{inl, inr, _≢_}
 use mathlib.Core.List.{List}
 use Prim.Native.Nat.{ℕ, _+_, _*_, _≤_, _<_}
 use native.Mathlib.Omega.{arith}
 use native.Mathlib.Decide.{ℕ-discrete}
-use lib.Dec.{T}
-use lib.ListN.{length, set, length-set}
+use lib.ListN.{length, length-set}
 use lib.Seq.{getD-set-same, getD-set-other}
-use Rattle.definitions.specs.Slots.{word, slot, putSlot}
+use Rattle.definitions.specs.Slots.{word}
 use Rattle.definitions.specs.Model.{Box, Model}
 use Rattle.definitions.specs.Record.{stampLimit, stamp, threads, sites, site, thread, subject, setStamp, putThread, pushThread, takeThread, putSite, pushSite}
 use Rattle.definitions.specs.StateRules.{siteHeld, threadHeld}
@@ -76,20 +75,17 @@ module _ (r : List ℕ) (l : length r ≡ 1139) where
 -- ---- the edits keep the rules
 
 module _ (m : Model) (last : ℕ → ℕ) (x : Box) (r : List ℕ) (k : RecordFits m last x r) where
-  l : length r ≡ 1139
-  l = k .size
-
   thread-room : 163 + 61 * 16 ≤ length r
-  thread-room = omega (arith, l)
+  thread-room = omega (arith, k .size)
 
   site-room : 3 + 10 * 16 ≤ length r
-  site-room = omega (arith, l)
+  site-room = omega (arith, k .size)
 
   thread-count : 1 < length r
-  thread-count = omega (arith, l)
+  thread-count = omega (arith, k .size)
 
   site-count : 2 < length r
-  site-count = omega (arith, l)
+  site-count = omega (arith, k .size)
 
   -- an edit of the threads alone, and of the sites alone
   edit-threads : (s : List ℕ) → length s ≡ length r → Outside 163 61 16 1 r s → Array 61 16 (threadHeld m last x) (threads s) (thread s)
@@ -99,7 +95,7 @@ module _ (m : Model) (last : ℕ → ℕ) (x : Box) (r : List ℕ) (k : RecordFi
       let v = slots-frame 3 10 16 r s site-room e (λ j a b. w j (omega arith) (omega arith)) in
       let n = w 2 (omega arith) (omega arith) in
       record {
-        size = e ∙ l;
+        size = e ∙ k .size;
         stampFits = rw (w 0 (omega arith) (omega arith)) (k .stampFits);
         threadsFit = a;
         sitesFit = array-same 10 16 _ (k .sitesFit) _ _ n v;
@@ -111,7 +107,7 @@ module _ (m : Model) (last : ℕ → ℕ) (x : Box) (r : List ℕ) (k : RecordFi
   edit-sites s e o a d =
       let w : (j : ℕ) → 163 ≤ j → word s j ≡ word r j = λ j h. o j (omega arith) (inr (omega arith)) in
       record {
-        size = e ∙ l;
+        size = e ∙ k .size;
         stampFits = rw (o 0 (omega arith) (inl (omega arith))) (k .stampFits);
         threadsFit = array-same 61 16 _ (k .threadsFit) _ _ (o 1 (omega arith) (inl (omega arith))) (slots-frame 163 61 16 r s thread-room e (λ j a b. w j a));
         sitesFit = a;
@@ -169,7 +165,7 @@ module _ (m : Model) (last : ℕ → ℕ) (x : Box) (r : List ℕ) (k : RecordFi
   -- stamps go up: those of the other boxes, and this record's own
   pub record-up : (next : ℕ → ℕ) → ((b : ℕ) → last b ≤ next b) → RecordFits m next x r
   record-up next up = record {
-    size = l;
+    size = k .size;
     stampFits = k .stampFits;
     threadsFit = array-imp 61 16 _ _ (thread-up m last next up x) (k .threadsFit);
     sitesFit = array-imp 10 16 _ _ (site-up m last next up) (k .sitesFit);
@@ -178,12 +174,12 @@ module _ (m : Model) (last : ℕ → ℕ) (x : Box) (r : List ℕ) (k : RecordFi
 
   pub set-stamp-keeps : (v : ℕ) → v ≤ stampLimit → RecordFits m last x (setStamp r v)
   set-stamp-keeps v h =
-      let f = set-stamp-site r l v in
-      let n = set-stamp-word r l v 2 (omega arith) in
+      let f = set-stamp-site r (k .size) v in
+      let n = set-stamp-word r (k .size) v 2 (omega arith) in
       record {
-        size = set-stamp-length r l v;
-        stampFits = rw (set-stamp-same r l v) h;
-        threadsFit = array-same 61 16 _ (k .threadsFit) _ _ (set-stamp-word r l v 1 (omega arith)) (set-stamp-thread r l v);
+        size = set-stamp-length r (k .size) v;
+        stampFits = rw (set-stamp-same r (k .size) v) h;
+        threadsFit = array-same 61 16 _ (k .threadsFit) _ _ (set-stamp-word r (k .size) v 1 (omega arith)) (set-stamp-thread r (k .size) v);
         sitesFit = array-same 10 16 _ (k .sitesFit) _ _ n f;
         differ = differ-same (k .differ) _ _ n (λ i h. f i (omega (arith, k .sitesFit .most)));
       }

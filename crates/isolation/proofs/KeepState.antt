@@ -1,20 +1,20 @@
 -- A move that is made keeps the state rules. Assumes nothing.
-use mathlib.Core.Path.{_≡_, refl, ap, subst, sym, _∙_}
-use mathlib.Core.Logic.{_⊎_, inl, inr, _≢_}
+use mathlib.Core.Path.{_≡_, refl, ap, sym, _∙_}
+use mathlib.Core.Logic.{_≢_}
 use mathlib.Core.List.{List}
-use Prim.Native.Nat.{ℕ, suc, _+_, _*_, _≤_, _<_}
+use Prim.Native.Nat.{ℕ, _+_, _*_, _≤_, _<_}
 use native.Mathlib.Nat.{le-refl}
 use native.Mathlib.Omega.{arith}
 use native.Mathlib.Decide.{ℕ-discrete, decLt}
 use lib.ListN.{length}
-use Rattle.definitions.specs.Slots.{word, zeros, slot, putSlot, put}
+use Rattle.definitions.specs.Slots.{word, putSlot, put}
 use Rattle.definitions.specs.Model.{Model, boxAt, boxCount}
-use Rattle.definitions.specs.Record.{stamp, threads, recordOf, putRecord, lastStamps}
-use Rattle.definitions.specs.Moves.{Inside, Move, made, act, value2}
+use Rattle.definitions.specs.Record.{stamp, recordOf, putRecord, lastStamps}
+use Rattle.definitions.specs.Moves.{Inside, Move, made, act}
 use Rattle.definitions.proofs.Slots.{word-slot, word-put-before, word-put-after, length-putSlot, slot-put-same, slot-put-other}
 use Rattle.definitions.proofs.Valid.{Valid}
 use Rattle.isolation.proofs.Rules.{RecordFits, StateFits}
-use Rattle.isolation.proofs.Made.{InsideMade, InterActMade, InterMade, act-made, inter-made}
+use Rattle.isolation.proofs.Made.{InsideMade, InterActMade, act-made, inter-made}
 use Rattle.isolation.proofs.KeepRecord.{record-up}
 use Rattle.isolation.proofs.KeepMoves.{Kept, inside-kept, receive-kept, send-kept, sent-fits}
 

@@ -1,21 +1,18 @@
 -- A started state obeys the state rules. Assumes nothing.
-use mathlib.Core.Path.{_≡_, refl, ap, subst, sym, _∙_}
-use mathlib.Core.Logic.{_⊎_, inl, inr, _≢_}
+use mathlib.Core.Path.{_≡_, refl, ap, sym, _∙_}
+use mathlib.Core.Logic.{inl, _≢_}
 use mathlib.Core.Bool.{Bool, true, false}
 use mathlib.Core.List.{List, [], _∷_, _++_}
-use Prim.Native.Nat.{ℕ, suc, _+_, _-_, _*_, _≤_, _<_}
+use Prim.Native.Nat.{ℕ, suc, _+_, _*_, _≤_, _<_}
 use native.Mathlib.Omega.{arith}
-use lib.Dec.{T}
 use lib.ListN.{length, length-append}
 use Rattle.definitions.specs.Bounded.{_below_, flat}
 use Rattle.definitions.specs.Slots.{word, zeros, slot}
-use Rattle.definitions.specs.Model.{Site, Box, Model, siteAt, boxAt, siteCount, lineCount, boxCount, kind, boundWithin, boundAbove}
-use Rattle.definitions.specs.Record.{held, heldNumber, stamp, threads, sites, site, thread, subject, recordOf, lastStamps}
-use Rattle.definitions.specs.Start.{freeHeld, typeWords, startSite, startRecord, startState}
-use Rattle.definitions.specs.StateRules.{siteHeld, threadHeld}
+use Rattle.definitions.specs.Model.{Site, Box, Model, siteAt, boxAt, siteCount, lineCount, boxCount, boundWithin, boundAbove}
+use Rattle.definitions.specs.Record.{held, stamp, threads, sites, site, thread, subject, recordOf, lastStamps}
+use Rattle.definitions.specs.Start.{freeHeld, startSite, startRecord, startState}
 use Rattle.definitions.proofs.Bounded.{below-iff, true-of, false-of}
 use Rattle.definitions.proofs.Slots.{length-zeros, word-zeros, word-left, word-right, part-is, length-flat, slot-flat, slot-between}
-use Rattle.definitions.proofs.Arrays.{Array, Differ}
 use Rattle.definitions.proofs.Valid.{Valid, ValidBox, ValidSite}
 use Rattle.isolation.proofs.Rules.{SiteFits, ThreadFits, RecordFits, StateFits, site-iff, thread-iff}
 use Rattle.isolation.proofs.KeepHeld.{number-held, free-fits}
@@ -50,24 +47,24 @@ module _ (x : Box) where
   abbrev slotOf : ℕ → List ℕ
   slotOf i = choose i (siteCount x) (startSite (siteAt x i)) (zeros 10)
 
-  head : List ℕ
-  head = 0 ∷ 1 ∷ siteCount x ∷ []
+  counts : List ℕ
+  counts = 0 ∷ 1 ∷ siteCount x ∷ []
 
   slotOf-length : (i : ℕ) → length (slotOf i) ≡ 10
   slotOf-length i = choose-length i (siteCount x) (startSite (siteAt x i)) (zeros 10) 10 (start-site-length (siteAt x i)) (length-zeros 10)
 
-  front : length (head ++ flat 16 slotOf) ≡ 163
-  unfolding head
-  front = length-append head (flat 16 slotOf) ∙ omega (arith, length-flat 10 slotOf slotOf-length 16)
+  front : length (counts ++ flat 16 slotOf) ≡ 163
+  unfolding counts
+  front = length-append counts (flat 16 slotOf) ∙ omega (arith, length-flat 10 slotOf slotOf-length 16)
 
   pub start-length : length (startRecord x) ≡ 1139
-  unfolding startRecord head
-  start-length = length-append (head ++ flat 16 slotOf) (zeros 976) ∙ omega (arith, front, length-zeros 976)
+  unfolding startRecord counts
+  start-length = length-append (counts ++ flat 16 slotOf) (zeros 976) ∙ omega (arith, front, length-zeros 976)
 
   start-head : (k : ℕ) → k < 3 → word (startRecord x) k ≡ word (0 ∷ 1 ∷ siteCount x ∷ []) k
-  unfolding startRecord head
+  unfolding startRecord counts
   start-head k h =
-      word-left (head ++ flat 16 slotOf) (zeros 976) k (omega (arith, front)) ∙ word-left head (flat 16 slotOf) k h
+      word-left (counts ++ flat 16 slotOf) (zeros 976) k (omega (arith, front)) ∙ word-left counts (flat 16 slotOf) k h
 
   pub start-stamp : stamp (startRecord x) ≡ 0
   start-stamp = start-head 0 (omega arith)
@@ -79,22 +76,22 @@ module _ (x : Box) where
   start-sites = start-head 2 (omega arith)
 
   pub start-site : (i : ℕ) → i < 16 → i < siteCount x → site (startRecord x) i ≡ startSite (siteAt x i)
-  unfolding startRecord head
+  unfolding startRecord counts
   start-site i h l =
-      slot-between 10 slotOf slotOf-length 3 16 head (zeros 976) refl i h ∙ choose-low i (siteCount x) (startSite (siteAt x i)) (zeros 10) l
+      slot-between 10 slotOf slotOf-length 3 16 counts (zeros 976) refl i h ∙ choose-low i (siteCount x) (startSite (siteAt x i)) (zeros 10) l
 
   pub start-past : (i : ℕ) → i < 16 → siteCount x ≤ i → site (startRecord x) i ≡ zeros 10
-  unfolding startRecord head
+  unfolding startRecord counts
   start-past i h l =
-      slot-between 10 slotOf slotOf-length 3 16 head (zeros 976) refl i h ∙ choose-past i (siteCount x) (startSite (siteAt x i)) (zeros 10) l
+      slot-between 10 slotOf slotOf-length 3 16 counts (zeros 976) refl i h ∙ choose-past i (siteCount x) (startSite (siteAt x i)) (zeros 10) l
 
   -- line 0 and no binding are zeros, as is a slot that is not in use
   pub start-thread : (t : ℕ) → t < 16 → thread (startRecord x) t ≡ zeros 61
-  unfolding slot startRecord head
+  unfolding slot startRecord counts
   start-thread t h =
       part-is (startRecord x) (163 + 61 * t) 61 (zeros 61) (omega (arith, start-length)) (length-zeros 61)
       (λ j l.
-      word-right (head ++ flat 16 slotOf) (zeros 976) (163 + 61 * t + j) 163 front (omega arith) ∙ word-zeros 976 _ ∙ sym (word-zeros 61 j))
+      word-right (counts ++ flat 16 slotOf) (zeros 976) (163 + 61 * t + j) 163 front (omega arith) ∙ word-zeros 976 _ ∙ sym (word-zeros 61 j))
 
 -- ---- they obey the rules, whatever the last stamps
 

@@ -3,13 +3,13 @@ use mathlib.Core.Path.{_≡_, refl, ap, ap₂, subst, sym, _∙_}
 use mathlib.Core.Logic.{_⊎_, inl, inr, _≢_}
 use mathlib.Core.Bool.{Bool, true, false}
 use mathlib.Core.List.{List, [], _∷_, _++_, map}
-use Prim.Native.Nat.{ℕ, zero, suc, _+_, _≤_, _<_, zero-le}
+use Prim.Native.Nat.{ℕ, zero, suc, _+_, _≤_, _<_}
 use native.Mathlib.Nat.{le-refl, lt-trans, not-suc-le-zero, le-of-suc-le-suc}
 use native.Mathlib.Numerals.{add-one}
 use native.Mathlib.Omega.{arith}
 use native.Mathlib.Decide.{decLt}
 use lib.Dec.{T}
-use lib.ListN.{length, getD, take, length-append, length-take, length-map, List·getD-eq-default}
+use lib.ListN.{length, length-append, length-take, length-map, List·getD-eq-default}
 use lib.Seq.{getD-take}
 use Rattle.definitions.specs.Bounded.{_is_, _below_}
 use Rattle.definitions.specs.Sets.{has, membersBelow, members, size}
@@ -64,16 +64,16 @@ unfolding insert
 place v x xs = pick (decide (v below x)) (decide (v is x))
   where
     -- insert, with its two tests answered
-    with : Bool → Bool → List ℕ
-    with a b = elim a [ true ↦ v ∷ x ∷ xs | false ↦ elim b [ true ↦ x ∷ xs | false ↦ x ∷ insert v xs ] ]
+    answered : Bool → Bool → List ℕ
+    answered a b = elim a [ true ↦ v ∷ x ∷ xs | false ↦ elim b [ true ↦ x ∷ xs | false ↦ x ∷ insert v xs ] ]
 
     pick : T (v below x) ⊎ (T (v below x) → ⊥) → T (v is x) ⊎ (T (v is x) → ⊥) → Place v x xs (insert v (x ∷ xs))
-    pick (inl t) d = before (below-iff v x .0 t) (ap (λ (a : Bool). with a (v is x)) (true-of (v below x) t))
-    pick (inr f) (inl u) = there (is-iff v x .0 u) (ap₂ with (false-of (v below x) f) (true-of (v is x) u))
+    pick (inl t) d = before (below-iff v x .0 t) (ap (λ (a : Bool). answered a (v is x)) (true-of (v below x) t))
+    pick (inr f) (inl u) = there (is-iff v x .0 u) (ap₂ answered (false-of (v below x) f) (true-of (v is x) u))
     pick (inr f) (inr g) =
         let a : v < x → ⊥ = λ h. f (below-iff v x .1 h) in
         let b : v ≡ x → ⊥ = λ h. g (is-iff v x .1 h) in
-        behind (omega arith) (ap₂ with (false-of (v below x) f) (false-of (v is x) g))
+        behind (omega arith) (ap₂ answered (false-of (v below x) f) (false-of (v is x) g))
 
 pub insert-all : (P : ℕ → Type 0) (v : ℕ) → P v → (xs : List ℕ) → All P xs → All P (insert v xs)
 unfolding insert
