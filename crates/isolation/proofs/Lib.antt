@@ -3,3 +3,10 @@ pub mod Rules
 pub mod Made
 pub mod Follow
 pub mod Rule3
+pub mod KeepHeld
+pub mod TypeWords
+pub mod KeepSite
+pub mod KeepRecord
+pub mod KeepMoves
+pub mod KeepState
+pub mod StartFits
