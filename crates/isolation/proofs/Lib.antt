@@ -1,3 +1,4 @@
 pub mod Covers
 pub mod Rules
 pub mod Made
+pub mod Accepted
