@@ -1,7 +1,7 @@
 -- The edits of a record keep it covered: what a slot holds is covered where what was put there is. Assumes nothing.
 use mathlib.Core.Path.{_≡_, refl, ap, subst, sym, _∙_}
 use mathlib.Core.Logic.{_⊎_, inl, inr, _≢_}
-use mathlib.Core.List.{List}
+use mathlib.Core.List.{List, _∷_}
 use Prim.Native.Nat.{ℕ, suc, _+_, _-_, _*_, _≤_, _<_}
 use native.Mathlib.Omega.{arith}
 use native.Mathlib.Decide.{ℕ-discrete, decLt}
@@ -12,9 +12,11 @@ use Rattle.definitions.specs.Sets.{has}
 use Rattle.definitions.specs.Slots.{word, slot, putSlot, pushSlot, takeSlot}
 use Rattle.definitions.specs.Estimate.{Estimate}
 use Rattle.definitions.specs.Record.{heldNumber, threads, sites, site, thread, subject, flag, binding, setStamp, putThread, pushThread, takeThread, putSite, pushSite, setFlag, goto, bind}
+use Rattle.definitions.specs.Start.{typeWords}
 use Rattle.definitions.proofs.Slots.{Apart, length-putSlot, slot-put-same, slot-put-other, word-putSlot}
 use Rattle.definitions.proofs.Arrays.{Outside, slots-frame, push-length, push-outside, push-count, push-same, push-other, take-length, take-outside, take-count, take-below, take-above}
 use Rattle.isolation.proofs.Covers.{CoversThread, CoversSite, CoversRecord, covers-thread, covers-site, covers-record}
+use Rattle.isolation.proofs.TypeWords.{Member, length-type, type-word}
 
 -- ---- the live slots of an array: each has a property
 
@@ -69,6 +71,21 @@ turn-covered e b x f z p q k = record {
   hidden = rw (getD-set-same x 1 f 0 (omega arith), getD-set-other x 1 0 f 0 (omega arith)) q;
   types = λ j h. rw (getD-set-other x 1 (2 + j) f 0 (omega arith), getD-set-other x 1 0 f 0 (omega arith)) (k .types j h);
 }
+
+-- a site's words made of a subject, a flag and a type: covered where the subject is, and the held name of each of the type
+pub site-length : (v f : ℕ) (hold : ℕ → ℕ) (type : ℕ) → length (v ∷ f ∷ typeWords hold type) ≡ 10
+site-length v f hold type = omega (arith, length-type hold type)
+
+pub site-covered : (e : Estimate) (b v f : ℕ) (hold : ℕ → ℕ) (type : ℕ) → (f ≡ 0 → T (has (e .shown b) (heldNumber v))) → (f ≢ 0 → T (has (e .hidden b) (heldNumber v)))
+    → ((g : ℕ) → Member type g → T (has (e .eps b (heldNumber v)) (heldNumber (hold g)))) → CoversSite e b (v ∷ f ∷ typeWords hold type)
+site-covered e b v f hold type p q k = record {
+  shown = p;
+  hidden = q;
+  types = λ j h. rw (at j) (type-word (λ w. T (has (e .eps b (heldNumber v)) (heldNumber w))) hold type k j);
+}
+  where
+    at : (j : ℕ) → word (v ∷ f ∷ typeWords hold type) (2 + j) ≡ word (typeWords hold type) j
+    at j = ap (λ (i : ℕ). word (v ∷ f ∷ typeWords hold type) i) (let z : 2 + j ≡ suc (suc j) = omega arith in z)
 
 -- ---- a record: its length, its counts within their limits, and all covered
 
@@ -133,8 +150,8 @@ module _ (e : Estimate) (b : ℕ) (r : List ℕ) (k : Covered e b r) where
         mostThreads = omega (arith, k .mostThreads);
         mostSites = omega (arith, k .mostSites);
         covers =
-        covers-record e b (setStamp r v) (λ t l. rw (f t (omega (arith, k .mostThreads))) (covers-thread e b r (k .covers) t (omega arith)))
-        (λ i l. rw (g i (omega (arith, k .mostSites))) (covers-site e b r (k .covers) i (omega arith)));
+            covers-record e b (setStamp r v) (λ t l. rw (f t (omega (arith, k .mostThreads))) (covers-thread e b r (k .covers) t (omega arith)))
+            (λ i l. rw (g i (omega (arith, k .mostSites))) (covers-site e b r (k .covers) i (omega arith)));
       }
 
   module _ (t : ℕ) (h : t < threads r) where
