@@ -5,3 +5,5 @@ pub mod Accepted
 pub mod TypeWords
 pub mod CoverEdits
 pub mod CoverMoves
+pub mod Covered
+pub mod Shut
