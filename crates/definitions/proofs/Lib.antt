@@ -4,3 +4,5 @@ pub mod Starred
 pub mod Slots
 pub mod Arrays
 pub mod Valid
+pub mod Words
+pub mod Check

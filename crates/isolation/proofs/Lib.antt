@@ -7,3 +7,5 @@ pub mod CoverEdits
 pub mod CoverMoves
 pub mod Covered
 pub mod Shut
+pub mod Follow
+pub mod Rule3

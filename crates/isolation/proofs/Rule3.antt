@@ -1,0 +1,175 @@
+-- Rule 3, entire: from the question's yes to equal answers and equal records. Assumes nothing.
+use mathlib.Core.Path.{_≡_, refl, ap, ap₂, subst, sym, _∙_}
+use mathlib.Core.Logic.{_⊎_, inl, inr, _≢_}
+use mathlib.Core.Bool.{Bool, true, false, not}
+use mathlib.Core.List.{List, [], _∷_}
+use mathlib.Core.Option.{Option, none, some}
+use Prim.Native.Nat.{ℕ, _+_, _*_, _≤_, _<_}
+use native.Mathlib.Omega.{arith}
+use native.Mathlib.Decide.{ℕ-discrete}
+use lib.Dec.{T, T-not}
+use lib.ListN.{length}
+use Rattle.definitions.specs.Bounded.{_or_, _is_, _isnt_, _below_, faultIf, orElse}
+use Rattle.definitions.specs.Answer.{Refusal, unplaced, answerNumber}
+use Rattle.definitions.specs.Model.{Model, boxAt, boxCount}
+use Rattle.definitions.specs.Image.{nameCount, boxesOf, modelOf}
+use Rattle.definitions.specs.ReadModel.{readModel}
+use Rattle.definitions.specs.Estimate.{Estimate, estimateOf}
+use Rattle.definitions.specs.ReadEstimate.{readEstimate}
+use Rattle.definitions.specs.Clauses.{Broken, firstBroken, Verdict, accepted, breaks, refusedModel, refusedEstimate, verdictOf, afterEstimate, afterModel, check}
+use Rattle.definitions.specs.ShutOff.{shutOff, Reply, notAccepted, nobody, isShutOff, reply, question}
+use Rattle.definitions.specs.Record.{stateLength, recordOf}
+use Rattle.definitions.specs.StateRules.{stateFits}
+use Rattle.definitions.specs.Start.{startState}
+use Rattle.definitions.specs.Moves.{Kind, inside, inter, unknown, kindOfMove, Move, Outcome, refused, made, namesBox, act}
+use Rattle.definitions.specs.Calls.{Stepped, written, startRefusal, start, outcomeNumber, outcomeWords, outcomeRefusal, stateRefusal, step, Ran, steps, makes, Run, runRefusal, run}
+use Rattle.definitions.specs.Apart.{struck, answersLeft, EqualBut}
+use Rattle.definitions.proofs.Bounded.{tests, left-none, right-none, fault-none, none-fault, true-of, of-true, false-of, is-iff, isnt-iff}
+use Rattle.isolation.specs.Rule3.{Setting, Same, Rule3, Rule3Run}
+use Rattle.isolation.proofs.Follow.{namesGroup, struckBy, leftBy, SameOutside, EqualOutside, Reached, AlikeRuns, outcome-good, struck-alike}
+
+-- ---- what a yes says
+
+pub record Yes (model estimate : List ℕ) (h : ℕ) : Type 0 where
+  pub model-read : readModel model ≡ none
+  pub estimate-read : readEstimate (nameCount model) (boxesOf model) estimate ≡ none
+  pub clauses : firstBroken (modelOf model) (estimateOf estimate) ≡ none
+  pub box : h < boxesOf model
+  pub shut : T (shutOff (estimateOf estimate) (boxesOf model) h)
+
+not-yes : {v : Verdict} {b : Bool} → _≡_ {A = Reply} (notAccepted v) (isShutOff b) → ⊥
+not-yes e = subst (λ (r : Reply). code r) e tt
+  where
+    code : Reply → Type 0
+    code (notAccepted v) = Unit
+    code (nobody r) = Unit
+    code (isShutOff b) = ⊥
+
+nobody-yes : {r : Refusal} {b : Bool} → _≡_ {A = Reply} (nobody r) (isShutOff b) → ⊥
+nobody-yes e = subst (λ (r : Reply). code r) e tt
+  where
+    code : Reply → Type 0
+    code (notAccepted v) = Unit
+    code (nobody r) = Unit
+    code (isShutOff b) = ⊥
+
+pub question-yes : (model estimate : List ℕ) (h : ℕ) → question model estimate h ≡ isShutOff true → Yes model estimate h
+unfolding question check
+question-yes model estimate h e =
+    go (readModel model) refl (readEstimate (nameCount model) (boxesOf model) estimate) refl (firstBroken (modelOf model) (estimateOf estimate)) refl
+    (h below boxesOf model) refl e
+  where
+    s : Bool
+    s = shutOff (estimateOf estimate) (boxesOf model) h
+
+    go : (a : Option Refusal) → readModel model ≡ a → (b : Option Refusal) → readEstimate (nameCount model) (boxesOf model) estimate ≡ b
+        → (c : Option Broken) → firstBroken (modelOf model) (estimateOf estimate) ≡ c → (d : Bool) → (h below boxesOf model) ≡ d
+        → reply (afterModel a (afterEstimate b (verdictOf c))) (elim d [ true ↦ isShutOff s | false ↦ nobody (unplaced 12) ]) ≡ isShutOff true
+        → Yes model estimate h
+    go none ea none eb none ec true ed z = record {
+      model-read = ea;
+      estimate-read = eb;
+      clauses = ec;
+      box = simp tests at (of-true ed);
+      shut = of-true {b = shutOff (estimateOf estimate) (boxesOf model) h} cc;
+    }
+    go none ea none eb none ec false ed z = absurd (nobody-yes z)
+    go none ea none eb (some x) ec d ed z = absurd (not-yes z)
+    go none ea (some r) eb c ec d ed z = absurd (not-yes z)
+    go (some r) ea b eb c ec d ed z = absurd (not-yes z)
+
+-- ---- a list of steps is the moves made one after the other
+
+step-number : (o : Outcome (List ℕ)) → answerNumber (outcomeRefusal o) ≡ outcomeNumber o
+step-number (refused n) = refl
+step-number (made w) = refl
+
+module _ (image : List ℕ) (read : readModel image ≡ none) (Good : List ℕ → Type 0)
+    (size : (st : List ℕ) → Good st → length st ≡ stateLength) (fits : (st : List ℕ) → Good st → T (stateFits (modelOf image) st))
+    (next : (st : List ℕ) → Good st → (v : Move) (w : List ℕ) → act (modelOf image) st v ≡ made w → Good w) where
+  no-refusal : (st : List ℕ) → Good st → stateRefusal image st ≡ none
+  unfolding stateRefusal
+  no-refusal st g =
+      ap₂ orElse read (ap₂ orElse (none-fault (length st isnt stateLength) (unplaced 10) (λ t. (isnt-iff (length st) stateLength .0 t) (size st g)))
+      (none-fault (not (stateFits (modelOf image) st)) (unplaced 11) (λ t. T-not (stateFits (modelOf image) st) t (fits st g))))
+
+  step-act : (st : List ℕ) → Good st → (v : Move)
+      → (answerNumber (step image st v .answer) ≡ outcomeNumber (act (modelOf image) st v)) × (step image st v .words ≡ outcomeWords st (act (modelOf image) st v))
+  unfolding step
+  step-act st g v =
+      let o = act (modelOf image) st v in
+      let e = no-refusal st g in (
+        ap (λ (r : Option Refusal). answerNumber (orElse r (outcomeRefusal o))) e ∙ step-number o,
+        ap (λ (r : Option Refusal). written r (outcomeWords st o) st) e,
+      )
+
+  pub steps-makes : (vs : List Move) (st : List ℕ) → Good st → steps image st vs ≡ makes (modelOf image) st vs
+  unfolding steps makes
+  steps-makes [] st g = refl
+  steps-makes (v ∷ vs) st g =
+      let a = step-act st g v in
+      let rest = ap (λ (w : List ℕ). steps image w vs) (a .1) ∙ steps-makes vs (outcomeWords st (act (modelOf image) st v)) (outcome-good (modelOf image) Good st g v (next st g v)) in
+      ap₂ (λ (n : ℕ) (r : Ran). let z : Ran = record { answers = n ∷ r .answers; words = r .words } in z) (a .0) rest
+
+-- ---- the group of one box
+
+module _ (h : ℕ) where
+  one : ℕ → Bool
+  one b = b is h
+
+  names-one : (v : Move) → namesBox v h ≡ namesGroup one v
+  unfolding namesBox namesGroup one
+  names-one v = refl
+
+  struck-one : (vs : List Move) → struck h vs ≡ struckBy one vs
+  unfolding struck struckBy
+  struck-one [] = refl
+  struck-one (v ∷ vs) =
+      ap₂ (λ (b : Bool) (l : List Move). elim b as (λ _. List Move) [ true ↦ l | false ↦ v ∷ l ]) (names-one v) (struck-one vs)
+
+  left-one : (vs : List Move) (l : List ℕ) → answersLeft h vs l ≡ leftBy one vs l
+  unfolding answersLeft leftBy
+  left-one [] l = refl
+  left-one (v ∷ vs) [] = refl
+  left-one (v ∷ vs) (a ∷ l) =
+      ap₂ (λ (b : Bool) (k : List ℕ). elim b as (λ _. List ℕ) [ true ↦ k | false ↦ a ∷ k ]) (names-one v) (left-one vs l)
+
+  other-of : (b : ℕ) → b ≢ h → one b ≡ false
+  unfolding one
+  other-of b n = false-of (b is h) (λ t. n (is-iff b h .0 t))
+
+  of-other : (b : ℕ) → one b ≡ false → b ≢ h
+  unfolding one
+  of-other b e q = subst T e (is-iff b h .1 q)
+
+  equal-one : (m₁ m₂ : Model) → EqualBut h m₁ m₂ → EqualOutside one m₁ m₂
+  equal-one m₁ m₂ k = record { kinds = k .kinds; count = k .count; others = λ b l o. k .others b l (of-other b o) }
+
+  -- two lists that are equal once struck, each in its model, from states that are the same outside
+  lists-alike : (m₁ m₂ : Model) (Good₁ Good₂ : List ℕ → Type 0) → EqualBut h m₁ m₂ → EqualBut h m₂ m₂ → Reached one m₁ Good₁ → Reached one m₂ Good₂
+      → (st₁ st₂ : List ℕ) → Good₁ st₁ → Good₂ st₂ → SameOutside one st₁ st₂ → (vs₁ vs₂ : List Move) → struck h vs₁ ≡ struck h vs₂
+      → Same h vs₁ vs₂ (makes m₁ st₁ vs₁) (makes m₂ st₂ vs₂)
+  lists-alike m₁ m₂ Good₁ Good₂ k k₂ r₁ r₂ st₁ st₂ g₁ g₂ same vs₁ vs₂ e =
+      let a = struck-alike one m₁ m₂ (equal-one m₁ m₂ k) Good₁ Good₂ r₁ r₂ vs₁ st₁ st₂ g₁ g₂ same in
+      let b = struck-alike one m₂ m₂ (equal-one m₂ m₂ k₂) Good₂ Good₂ r₂ r₂ vs₂ st₂ st₂ g₂ g₂ (λ _ _ _. refl) in
+      let q : makes m₂ st₂ (struckBy one vs₁) ≡ makes m₂ st₂ (struckBy one vs₂) =
+      ap (makes m₂ st₂) (sym (struck-one vs₁) ∙ e ∙ struck-one vs₂) in
+      record {
+        answers = left-one vs₁ (makes m₁ st₁ vs₁ .answers) ∙ a .answers ∙ ap (λ (r : Ran). r .answers) q ∙ sym (b .answers) ∙ sym (left-one vs₂ (makes m₂ st₂ vs₂ .answers));
+        records = λ c l n.
+            let o = other-of c n in
+            a .words c l o ∙ ap (λ (r : Ran). recordOf (r .words) c) q ∙ sym (b .words c l o);
+      }
+
+-- what a start that is not refused leaves
+pub start-words : (image words : List ℕ) → start image words .answer ≡ none → start image words .words ≡ startState (modelOf image)
+unfolding start
+start-words image words e = ap (λ (r : Option Refusal). written r (startState (modelOf image)) words) e
+
+-- what a run that is not refused leaves
+pub run-words : (image words : List ℕ) (vs : List Move) (answers : List ℕ) → run image words vs answers .answer ≡ none
+    → (run image words vs answers .words ≡ makes (modelOf image) words vs .words) × (run image words vs answers .answers ≡ makes (modelOf image) words vs .answers)
+unfolding run
+run-words image words vs answers e =
+    let all = makes (modelOf image) words vs in
+    (ap (λ (r : Option Refusal). written r (all .words) words) e, ap (λ (r : Option Refusal). written r (all .answers) answers) e)
