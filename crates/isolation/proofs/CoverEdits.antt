@@ -16,7 +16,7 @@ use Rattle.definitions.specs.Start.{typeWords}
 use Rattle.definitions.proofs.Slots.{Apart, length-putSlot, slot-put-same, slot-put-other, word-putSlot}
 use Rattle.definitions.proofs.Arrays.{Outside, slots-frame, push-length, push-outside, push-count, push-same, push-other, take-length, take-outside, take-count, take-below, take-above}
 use Rattle.isolation.proofs.Covers.{CoversThread, CoversSite, CoversRecord, covers-thread, covers-site, covers-record}
-use Rattle.isolation.proofs.TypeWords.{Member, length-type, type-word}
+use Rattle.isolation.proofs.CoverTypes.{length-typeWords, type-each}
 
 -- ---- the live slots of an array: each has a property
 
@@ -74,14 +74,14 @@ turn-covered e b x f z p q k = record {
 
 -- a site's words made of a subject, a flag and a type: covered where the subject is, and the held name of each of the type
 pub site-length : (v f : ℕ) (hold : ℕ → ℕ) (type : ℕ) → length (v ∷ f ∷ typeWords hold type) ≡ 10
-site-length v f hold type = omega (arith, length-type hold type)
+site-length v f hold type = omega (arith, length-typeWords hold type)
 
 pub site-covered : (e : Estimate) (b v f : ℕ) (hold : ℕ → ℕ) (type : ℕ) → (f ≡ 0 → T (has (e .shown b) (heldNumber v))) → (f ≢ 0 → T (has (e .hidden b) (heldNumber v)))
-    → ((g : ℕ) → Member type g → T (has (e .eps b (heldNumber v)) (heldNumber (hold g)))) → CoversSite e b (v ∷ f ∷ typeWords hold type)
+    → ((g : ℕ) → g < 64 → T (has type g) → T (has (e .eps b (heldNumber v)) (heldNumber (hold g)))) → CoversSite e b (v ∷ f ∷ typeWords hold type)
 site-covered e b v f hold type p q k = record {
   shown = p;
   hidden = q;
-  types = λ j h. rw (at j) (type-word (λ w. T (has (e .eps b (heldNumber v)) (heldNumber w))) hold type k j);
+  types = λ j h. rw (at j) (type-each hold type (λ w. T (has (e .eps b (heldNumber v)) (heldNumber w))) k j h);
 }
   where
     at : (j : ℕ) → word (v ∷ f ∷ typeWords hold type) (2 + j) ≡ word (typeWords hold type) j

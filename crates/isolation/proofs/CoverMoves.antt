@@ -21,14 +21,13 @@ use Rattle.definitions.proofs.Valid.{ValidLine, ValidReach, Valid}
 use Rattle.isolation.proofs.Rules.{HeldFits, ThreadFits, thread-iff, SiteFits, site-iff, RecordFits}
 use Rattle.isolation.proofs.Made.{AtLine, SiteFound, IntraMade, InterMade, drop-made, spread-made, new-made, copy-made, expose-made, turn-made, intra-made, inter-made}
 use Rattle.isolation.proofs.Covers.{_⊆_, LineMet, Accepted, CoversThread, CoversSite, CoversRecord, covers-thread, covers-site}
-use Rattle.isolation.proofs.TypeWords.{Member, length-type, type-word}
 use Rattle.isolation.proofs.CoverEdits.{goto-covered, bind-covered, turn-covered, site-length, site-covered, Covered, set-stamp, put-threads, put-sites, put-thread, take-thread, push-thread, put-site, push-site}
 
 -- ---- held names
 
-pub held-number : (n s : ℕ) → n < 64 → heldNumber (held n s) ≡ n
+pub number-held : (n s : ℕ) → n < 64 → heldNumber (held n s) ≡ n
 unfolding heldNumber held
-held-number n s h = omega arith
+number-held n s h = omega arith
 
 pub number-low : (v : ℕ) → heldNumber v < 64
 unfolding heldNumber
@@ -44,7 +43,7 @@ module _ (m : Model) (good : Valid m) (e : Estimate) (acc : Accepted m e) (last 
     where
       pick : (c : Bool) → (kind (m .kinds) n is 0) ≡ c → (kind (m .kinds) n ≡ 0) ⊎ T (boundAbove x (line y) n)
           → T (has (e .rho n) (heldNumber (elim c [ true ↦ freeHeld n | false ↦ binding y n ])))
-      pick true q r = rw (held-number n 0 (omega (arith, good .names))) (acc .free n h (is-iff (kind (m .kinds) n) 0 .0 (of-true q)))
+      pick true q r = rw (number-held n 0 (omega (arith, good .names))) (acc .free n h (is-iff (kind (m .kinds) n) 0 .0 (of-true q)))
       pick false q (inl z) = absurd (not-false q (is-iff (kind (m .kinds) n) 0 .1 z))
       pick false q (inr z) =
           let l : n < 60 = omega (arith, good .names) in
@@ -140,7 +139,7 @@ module _ (m : Model) (good : Valid m) (e : Estimate) (acc : Accepted m e) (last 
       → Covered e b (putThread (setStamp r (stamp r + 1)) t (onwardWith (m .kinds) (boxAt m b) r t n (held n (stamp r + 1))))
   made-name t h n l p =
       put-thread e b _ (set-stamp e b r fit-covered (stamp r + 1)) t (rw (getD-set-other r 0 1 (stamp r + 1) 0 (omega arith)) h) _ (with-length t h n _)
-      (with-covered t h n _ l (rw (held-number n (stamp r + 1) (omega (arith, good .names))) p))
+      (with-covered t h n _ l (rw (number-held n (stamp r + 1) (omega (arith, good .names))) p))
 
   -- clause 3: a restricted name may stand for itself
   new-covered : (t : ℕ) (s : List ℕ) → newMove (m .kinds) (boxAt m b) r t ≡ made s → Covered e b s
@@ -165,13 +164,13 @@ module _ (m : Model) (good : Valid m) (e : Estimate) (acc : Accepted m e) (last 
       let n = lineOf (m .kinds) (boxAt m b) r t .name1 in
       let type = lineOf (m .kinds) (boxAt m b) r t .type in
       let l = valid t h .exposeListed o in
-      let q = held-number n (stamp r + 1) (omega (arith, good .names)) in
+      let q = number-held n (stamp r + 1) (omega (arith, good .names)) in
       let c : sites (putThread (setStamp r (stamp r + 1)) t (onwardWith (m .kinds) (boxAt m b) r t n (held n (stamp r + 1)))) ≡ sites r =
       put-sites e b _ (set-stamp e b r fit-covered (stamp r + 1)) t (rw (getD-set-other r 0 1 (stamp r + 1) 0 (omega arith)) h) _ (with-length t h n _)
       ∙ getD-set-other r 0 2 (stamp r + 1) 0 (omega arith) in
       rw (d .3) (push-site e b _ (made-name t h n l (met t h .clause7 o)) (omega (arith, d .1)) _ (site-length (held n (stamp r + 1)) 0 (valueIn (m .kinds) (thread r t)) type)
       (site-covered e b (held n (stamp r + 1)) 0 (valueIn (m .kinds) (thread r t)) type (λ _. rw q (met t h .clause7shown o)) (λ f. absurd (f refl))
-      (λ g k. rw q (met t h .clause7type o g (k .low) (k .isIn) _ (number-low (valueIn (m .kinds) (thread r t) g)) (value t h g (valid t h .exposeType o g (k .isIn)) (reach t h .exposeReach o g (k .isIn)))))))
+      (λ g l k. rw q (met t h .clause7type o g l k _ (number-low (valueIn (m .kinds) (thread r t) g)) (value t h g (valid t h .exposeType o g k) (reach t h .exposeReach o g k))))))
 
   -- a turned site: what its subject stands for is where its new flag says
   turn-move : (op before after t : ℕ) (s : List ℕ) → turnMove (m .kinds) (boxAt m b) r op before after t ≡ made s

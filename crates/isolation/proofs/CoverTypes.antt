@@ -1,13 +1,13 @@
 -- A type as words: each word that is not zero is the held name of a member of the type. Assumes nothing.
-use mathlib.Core.Path.{_≡_, refl, ap, subst, sym, _∙_}
+use mathlib.Core.Path.{_≡_, refl}
 use mathlib.Core.Logic.{_≢_}
 use mathlib.Core.Bool.{Bool, true, false}
 use mathlib.Core.List.{List, [], _∷_, _++_, map}
 use Prim.Native.Nat.{ℕ, zero, suc, _+_, _≤_, _<_}
-use native.Mathlib.Numerals.{one-add}
+use native.Mathlib.Nat.{le-refl}
 use native.Mathlib.Omega.{arith}
 use lib.Dec.{T}
-use lib.ListN.{length, getD, take, replicate, length-append, length-take}
+use lib.ListN.{length, take, length-append, length-take}
 use Rattle.definitions.specs.Bounded.{_is_, _below_}
 use Rattle.definitions.specs.Sets.{has, membersBelow, members}
 use Rattle.definitions.specs.Slots.{word, zeros}
@@ -55,37 +55,33 @@ module _ (P : ℕ → Type 0) where
   each-ascending [] k = tt
   each-ascending (x ∷ xs) k = each-insert x (ascending xs) (k .0) (each-ascending xs (k .1))
 
-pub each-map : (P Q : ℕ → Type 0) (f : ℕ → ℕ) → ((x : ℕ) → Q x → P (f x)) → (l : List ℕ) → Each Q l → Each P (map f l)
-each-map P Q f h [] k = tt
-each-map P Q f h (x ∷ xs) k = (h x (k .0), each-map P Q f h xs (k .1))
+pub each-map : (P : ℕ → Type 0) (f : ℕ → ℕ) (l : List ℕ) → Each (λ n. P (f n)) l → Each P (map f l)
+each-map P f [] k = tt
+each-map P f (x ∷ xs) k = (k .0, each-map P f xs (k .1))
 
--- name n is a member of s
-pub record Member (s n : ℕ) : Type 0 where
-  pub low : n < 64
-  pub isIn : T (has s n)
-
-each-members : (s n : ℕ) → n ≤ 64 → Each (Member s) (membersBelow n s)
+each-members : (P : ℕ → Type 0) (s k : ℕ) → ((n : ℕ) → n < k → T (has s n) → P n) → Each P (membersBelow k s)
 unfolding membersBelow
-each-members s zero h = tt
-each-members s (suc n) h =
-    each-append (Member s) (membersBelow n s) (elim (has s n) [ true ↦ n ∷ [] | false ↦ [] ]) (each-members s n (omega arith)) (last (has s n) refl)
+each-members P s zero f = tt
+each-members P s (suc k) f =
+    each-append P (membersBelow k s) (elim (has s k) [ true ↦ k ∷ [] | false ↦ [] ]) (each-members P s k (λ n h. f n (omega arith))) (last (has s k) refl)
   where
-    last : (b : Bool) → has s n ≡ b → Each (Member s) (elim b [ true ↦ n ∷ [] | false ↦ [] ])
-    last true e = (record { low = omega arith; isIn = of-true e }, tt)
+    last : (b : Bool) → has s k ≡ b → Each P (elim b [ true ↦ k ∷ [] | false ↦ [] ])
+    last true e = (f k (le-refl (suc k)) (of-true e), tt)
     last false e = tt
 
-pub length-type : (hold : ℕ → ℕ) (s : ℕ) → length (typeWords hold s) ≡ 8
+pub length-typeWords : (hold : ℕ → ℕ) (type : ℕ) → length (typeWords hold type) ≡ 8
 unfolding typeWords
-length-type hold s = simp (length-take, length-append, length-zeros) (omega arith)
+length-typeWords hold type = simp (length-take, length-append, length-zeros) (omega arith)
 
 -- what holds of the held name of each member holds of each word that is not zero
-pub type-word : (P : ℕ → Type 0) (hold : ℕ → ℕ) (s : ℕ) → ((g : ℕ) → Member s g → P (hold g)) → (i : ℕ) → word (typeWords hold s) i ≢ 0 → P (word (typeWords hold s) i)
+pub type-each : (hold : ℕ → ℕ) (type : ℕ) (P : ℕ → Type 0) → ((n : ℕ) → n < 64 → T (has type n) → P (hold n))
+    → (i : ℕ) → i < 8 → word (typeWords hold type) i ≢ 0 → P (word (typeWords hold type) i)
 unfolding typeWords members
-type-word P hold s f =
-    each-at Q (typeWords hold s) (each-take Q 8 (ascending (map hold (members s)) ++ zeros 8)
-    (each-append Q (ascending (map hold (members s))) (zeros 8)
-    (each-ascending Q (map hold (members s)) (each-map Q (Member s) hold (λ g k _. f g k) (members s) (each-members s 64 (omega arith))))
-    (each-zeros Q 8 (λ n. absurd (n refl))))) (λ n. absurd (n refl))
+type-each hold type P f i h =
+    each-at Q (typeWords hold type) (each-take Q 8 (ascending (map hold (members type)) ++ zeros 8)
+    (each-append Q (ascending (map hold (members type))) (zeros 8)
+    (each-ascending Q (map hold (members type)) (each-map Q hold (members type) (each-members (λ n. Q (hold n)) type 64 (λ n l t _. f n l t))))
+    (each-zeros Q 8 (λ n. absurd (n refl))))) (λ n. absurd (n refl)) i
   where
     Q : ℕ → Type 0
     Q v = v ≢ 0 → P v
