@@ -1,6 +1,13 @@
 pub mod Covers
 pub mod Rules
 pub mod Made
+pub mod Accepted
+pub mod CoverTypes
+pub mod CoverEdits
+pub mod CoverMoves
+pub mod Covered
+pub mod CoverStart
+pub mod Shut
 pub mod Follow
 pub mod Rule3
 pub mod KeepHeld
