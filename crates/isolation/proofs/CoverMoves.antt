@@ -170,7 +170,7 @@ module _ (m : Model) (good : Valid m) (e : Estimate) (acc : Accepted m e) (last 
       ∙ getD-set-other r 0 2 (stamp r + 1) 0 (omega arith) in
       rw (d .3) (push-site e b _ (made-name t h n l (met t h .clause7 o)) (omega (arith, d .1)) _ (site-length (held n (stamp r + 1)) 0 (valueIn (m .kinds) (thread r t)) type)
       (site-covered e b (held n (stamp r + 1)) 0 (valueIn (m .kinds) (thread r t)) type (λ _. rw q (met t h .clause7shown o)) (λ f. absurd (f refl))
-      (λ g l k. rw q (met t h .clause7type o g l k _ (number-low (valueIn (m .kinds) (thread r t) g)) (value t h g (valid t h .exposeType o g k) (reach t h .exposeReach o g k))))))
+      (λ g l k. rw q (met t h .clause7type o g l k _ (number-low (valueIn (m .kinds) (thread r t) g)) (value t h g (valid t h .exposeType o g l k) (reach t h .exposeReach o g l k))))))
 
   -- a turned site: what its subject stands for is where its new flag says
   turn-move : (op before after t : ℕ) (s : List ℕ) → turnMove (m .kinds) (boxAt m b) r op before after t ≡ made s

@@ -9,8 +9,8 @@ use native.Mathlib.Decide.{ℕ-discrete, decLt}
 use lib.ListN.{length}
 use Rattle.definitions.specs.Slots.{word, putSlot, put}
 use Rattle.definitions.specs.Model.{Model, boxAt, boxCount}
-use Rattle.definitions.specs.Record.{stamp, recordOf, putRecord, lastStamps}
-use Rattle.definitions.specs.Moves.{Inside, Move, made, act}
+use Rattle.definitions.specs.Record.{stamp, threads, recordOf, putRecord, lastStamps}
+use Rattle.definitions.specs.Moves.{Inside, Move, Ends, made, insideMove, interMove, act}
 use Rattle.definitions.proofs.Slots.{word-slot, word-put-before, word-put-after, length-putSlot, slot-put-same, slot-put-other}
 use Rattle.definitions.proofs.Valid.{Valid}
 use Rattle.isolation.proofs.Rules.{RecordFits, StateFits}
@@ -87,6 +87,20 @@ module _ (m : Model) (valid : Valid m) (st : List ℕ) (k : StateFits m st) wher
       rw (a .leaves)
       (put-fits m valid st k b (a .box) (a .new)
       (inside-kept m valid b (a .box) (lastStamps st) (recordOf st b) (record-fits b (a .box)) refl i t u (a .new) (a .makes)))
+
+  pub inside-size : (i : Inside) (b t u : ℕ) (r : List ℕ) → b < boxCount m → insideMove (m .kinds) (boxAt m b) (recordOf st b) i t u ≡ made r → length r ≡ 1139
+  unfolding lastStamps
+  inside-size i b t u r h e = inside-kept m valid b h (lastStamps st) (recordOf st b) (record-fits b h) refl i t u r e .size
+
+  pub inter-size : (b t c u : ℕ) (e : Ends) → b < boxCount m → c < boxCount m → t < threads (recordOf st b) → u < threads (recordOf st c)
+      → interMove (m .kinds) (boxAt m b) (recordOf st b) (boxAt m c) (recordOf st c) t u ≡ made e
+      → (length (e .input) ≡ 1139) × (length (e .output) ≡ 1139)
+  inter-size b t c u e hb hc lt lu z =
+      let i = inter-made (m .kinds) (boxAt m b) (recordOf st b) (boxAt m c) (recordOf st c) t u e z in
+      let sent = sent-fits m valid c hc (lastStamps st) (recordOf st c) (record-fits c hc) u lu (i .opIs2) in (
+        ap length (i .inputLeaves) ∙ receive-kept m valid b hb (lastStamps st) (recordOf st b) (record-fits b hb) t lt (i .opIs) _ sent .size,
+        ap length (i .outputLeaves) ∙ send-kept m valid c hc (lastStamps st) (recordOf st c) (record-fits c hc) u lu (i .opIs2) .size,
+      )
 
   -- the input end first, then the output end in the state that this leaves
   inter-fits : (b t c u : ℕ) (w : List ℕ) → InterActMade m st b t c u w → StateFits m w

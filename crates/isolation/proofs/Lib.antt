@@ -1,6 +1,13 @@
 pub mod Covers
 pub mod Rules
 pub mod Made
+pub mod KeepHeld
+pub mod TypeWords
+pub mod KeepSite
+pub mod KeepRecord
+pub mod KeepMoves
+pub mod KeepState
+pub mod StartFits
 pub mod Accepted
 pub mod CoverTypes
 pub mod CoverEdits
@@ -10,10 +17,4 @@ pub mod CoverStart
 pub mod Shut
 pub mod Follow
 pub mod Rule3
-pub mod KeepHeld
-pub mod TypeWords
-pub mod KeepSite
-pub mod KeepRecord
-pub mod KeepMoves
-pub mod KeepState
-pub mod StartFits
+pub mod Example

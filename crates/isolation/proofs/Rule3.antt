@@ -6,7 +6,7 @@ use mathlib.Core.List.{List, [], _∷_}
 use mathlib.Core.Option.{Option, none, some}
 use Prim.Native.Nat.{ℕ, _+_, _*_, _≤_, _<_}
 use native.Mathlib.Omega.{arith}
-use native.Mathlib.Decide.{ℕ-discrete}
+use native.Mathlib.Decide.{decLt}
 use lib.Dec.{T, T-not}
 use lib.ListN.{length}
 use Rattle.definitions.specs.Bounded.{_or_, _is_, _isnt_, _below_, faultIf, orElse}
@@ -20,11 +20,22 @@ use Rattle.definitions.specs.Clauses.{Broken, firstBroken, Verdict, accepted, b
 use Rattle.definitions.specs.ShutOff.{shutOff, Reply, notAccepted, nobody, isShutOff, reply, question}
 use Rattle.definitions.specs.Record.{stateLength, recordOf}
 use Rattle.definitions.specs.StateRules.{stateFits}
-use Rattle.definitions.specs.Start.{startState}
+use Rattle.definitions.specs.Start.{startRecord, startState}
 use Rattle.definitions.specs.Moves.{Kind, inside, inter, unknown, kindOfMove, Move, Outcome, refused, made, namesBox, act}
 use Rattle.definitions.specs.Calls.{Stepped, written, startRefusal, start, outcomeNumber, outcomeWords, outcomeRefusal, stateRefusal, step, Ran, steps, makes, Run, runRefusal, run}
 use Rattle.definitions.specs.Apart.{struck, answersLeft, EqualBut}
 use Rattle.definitions.proofs.Bounded.{tests, left-none, right-none, fault-none, none-fault, true-of, of-true, false-of, is-iff, isnt-iff}
+use Rattle.definitions.proofs.Valid.{Valid}
+use Rattle.definitions.proofs.Image.{model-count}
+use Rattle.definitions.proofs.ReadModel.{valid-image}
+use Rattle.isolation.proofs.Rules.{StateFits, state-iff}
+use Rattle.isolation.proofs.KeepState.{act-fits, inside-size, inter-size}
+use Rattle.isolation.proofs.StartFits.{start-fits, start-record, start-lacking}
+use Rattle.isolation.proofs.Covers.{Accepted, Covers}
+use Rattle.isolation.proofs.Accepted.{accepted-of}
+use Rattle.isolation.proofs.CoverStart.{start-covered}
+use Rattle.isolation.proofs.Covered.{act-covered}
+use Rattle.isolation.proofs.Shut.{GroupShut, shut-group, inter-refused}
 use Rattle.isolation.specs.Rule3.{Setting, Same, Rule3, Rule3Run}
 use Rattle.isolation.proofs.Follow.{namesGroup, struckBy, leftBy, SameOutside, EqualOutside, Reached, AlikeRuns, outcome-good, struck-alike}
 
@@ -114,7 +125,7 @@ module _ (image : List ℕ) (read : readModel image ≡ none) (Good : List ℕ �
 -- ---- the group of one box
 
 module _ (h : ℕ) where
-  one : ℕ → Bool
+  unfoldable pub one : ℕ → Bool
   one b = b is h
 
   names-one : (v : Move) → namesBox v h ≡ namesGroup one v
@@ -173,3 +184,117 @@ unfolding run
 run-words image words vs answers e =
     let all = makes (modelOf image) words vs in
     (ap (λ (r : Option Refusal). written r (all .words) words) e, ap (λ (r : Option Refusal). written r (all .answers) answers) e)
+
+-- ---- the states that are reached from a start
+
+-- a state that obeys the state rules and that the estimate covers
+pub record Good (m : Model) (e : Estimate) (st : List ℕ) : Type 0 where
+  pub fits : StateFits m st
+  pub covered : Covers m e st
+
+module _ (m : Model) (valid : Valid m) (e : Estimate) (meets : Accepted m e) where
+  pub good-start : Good m e (startState m)
+  good-start = record { fits = start-fits m valid; covered = start-covered m valid e meets }
+
+  pub good-next : (st : List ℕ) → Good m e st → (v : Move) (w : List ℕ) → act m st v ≡ made w → Good m e w
+  good-next st g v w z =
+      record { fits = act-fits m valid st (g .fits) v w z; covered = act-covered m valid e meets st (g .fits) (g .covered) v w z }
+
+  -- where no box of the group is linked to a box outside it
+  pub good-reached : (group : ℕ → Bool) → GroupShut e (boxCount m) group → Reached group m (Good m e)
+  good-reached group shut = record {
+    most = valid .mostBoxes;
+    size = λ st g. g .fits .size;
+    insideSize = λ st g. inside-size m valid st (g .fits);
+    interSize = λ st g. inter-size m valid st (g .fits);
+    apart = λ st g b t c u w z. same-side (group b) (group c) (λ d. inter-refused m valid e group shut st (g .fits) (g .covered) b t c u w d z);
+    next = good-next;
+  }
+    where
+      same-side : (x y : Bool) → (x ≡ not y → ⊥) → x ≡ y
+      same-side true true f = refl
+      same-side true false f = absurd (f refl)
+      same-side false true f = absurd (f refl)
+      same-side false false f = refl
+
+-- two models that are equal but for one box start with the same records in the others
+start-same : (h : ℕ) (m₁ m₂ : Model) → Valid m₁ → EqualBut h m₁ m₂ → SameOutside (one h) (startState m₁) (startState m₂)
+start-same h m₁ m₂ valid k b l o = pick (decLt b (boxCount m₁))
+  where
+    pick : Dec (b < boxCount m₁) → recordOf (startState m₁) b ≡ recordOf (startState m₂) b
+    pick (yes i) =
+        start-record m₁ b l i ∙ ap startRecord (k .others b i (of-other h b o)) ∙ sym (start-record m₂ b l (omega (arith, k .count)))
+    pick (no i) = start-lacking m₁ b l (omega arith) ∙ sym (start-lacking m₂ b l (omega (arith, k .count)))
+
+-- ---- an image whose estimate is accepted
+
+module _ (model estimate : List ℕ) (h : ℕ) (yes : Yes model estimate h) where
+  m : Model
+  m = modelOf model
+
+  e : Estimate
+  e = estimateOf estimate
+
+  pub image-valid : Valid (modelOf model)
+  image-valid = valid-image model (yes .model-read)
+
+  pub image-accepted : Accepted (modelOf model) (estimateOf estimate)
+  image-accepted = accepted-of (modelOf model) (estimateOf estimate) (yes .clauses) (image-valid .names)
+
+  pub image-shut : GroupShut (estimateOf estimate) (boxCount (modelOf model)) (one h)
+  unfolding one
+  image-shut = rw (model-count model) (shut-group (estimateOf estimate) (boxesOf model) h (yes .shut))
+
+  pub image-reached : Reached (one h) (modelOf model) (Good (modelOf model) (estimateOf estimate))
+  image-reached = good-reached (modelOf model) image-valid (estimateOf estimate) image-accepted (one h) image-shut
+
+  pub image-start : Good (modelOf model) (estimateOf estimate) (startState (modelOf model))
+  image-start = good-start (modelOf model) image-valid (estimateOf estimate) image-accepted
+
+  -- from a start, a list of step calls makes its moves one after the other: no step refuses the model, the length or the state
+  pub steps-start : (vs : List Move) → steps model (startState (modelOf model)) vs ≡ makes (modelOf model) (startState (modelOf model)) vs
+  steps-start vs =
+      steps-makes model (yes .model-read) (Good (modelOf model) (estimateOf estimate)) (λ st g. g .fits .size) (λ st g. state-iff (modelOf model) st .1 (g .fits))
+      (good-next (modelOf model) image-valid (estimateOf estimate) image-accepted) vs (startState (modelOf model)) image-start
+
+-- ---- rule 3
+
+module _ (model₁ model₂ estimate₁ estimate₂ : List ℕ) (h : ℕ) (words₁ words₂ : List ℕ) (moves₁ moves₂ : List Move)
+    (s : Setting model₁ model₂ estimate₁ estimate₂ h words₁ words₂ moves₁ moves₂) where
+  yes₁ : Yes model₁ estimate₁ h
+  yes₁ = question-yes model₁ estimate₁ h (s .shut₁)
+
+  yes₂ : Yes model₂ estimate₂ h
+  yes₂ = question-yes model₂ estimate₂ h (s .shut₂)
+
+  makes-same : Same h moves₁ moves₂ (makes (modelOf model₁) (startState (modelOf model₁)) moves₁) (makes (modelOf model₂) (startState (modelOf model₂)) moves₂)
+  makes-same =
+      lists-alike h (modelOf model₁) (modelOf model₂) _ _ (s .equalBut) (record { kinds = refl; count = refl; others = λ _ _ _. refl })
+      (image-reached model₁ estimate₁ h yes₁) (image-reached model₂ estimate₂ h yes₂) (startState (modelOf model₁)) (startState (modelOf model₂))
+      (image-start model₁ estimate₁ h yes₁) (image-start model₂ estimate₂ h yes₂)
+      (start-same h (modelOf model₁) (modelOf model₂) (image-valid model₁ estimate₁ h yes₁) (s .equalBut)) moves₁ moves₂ (s .moves)
+
+  steps-same : Same h moves₁ moves₂ (steps model₁ (start model₁ words₁ .words) moves₁) (steps model₂ (start model₂ words₂ .words) moves₂)
+  steps-same =
+      rw (start-words model₁ words₁ (s .started₁), start-words model₂ words₂ (s .started₂), steps-start model₁ estimate₁ h yes₁ moves₁, steps-start model₂ estimate₂ h yes₂ moves₂)
+      makes-same
+
+  runs-same : (answers₁ answers₂ : List ℕ)
+      → run model₁ (start model₁ words₁ .words) moves₁ answers₁ .answer ≡ none → run model₂ (start model₂ words₂ .words) moves₂ answers₂ .answer ≡ none
+      → Same h moves₁ moves₂
+      (let r = run model₁ (start model₁ words₁ .words) moves₁ answers₁ in record { answers = r .answers; words = r .words })
+      (let r = run model₂ (start model₂ words₂ .words) moves₂ answers₂ in record { answers = r .answers; words = r .words })
+  runs-same answers₁ answers₂ e₁ e₂ =
+      let r₁ = run-words model₁ (start model₁ words₁ .words) moves₁ answers₁ e₁ in
+      let r₂ = run-words model₂ (start model₂ words₂ .words) moves₂ answers₂ e₂ in
+      rw (r₁ .0, r₁ .1, r₂ .0, r₂ .1, start-words model₁ words₁ (s .started₁), start-words model₂ words₂ (s .started₂)) makes-same
+
+-- The theorem.
+pub rule3 : Rule3
+unfolding Rule3
+rule3 = steps-same
+
+pub rule3-run : Rule3Run
+unfolding Rule3Run
+rule3-run model₁ model₂ estimate₁ estimate₂ h words₁ words₂ moves₁ moves₂ answers₁ answers₂ s =
+    runs-same model₁ model₂ estimate₁ estimate₂ h words₁ words₂ moves₁ moves₂ s answers₁ answers₂

@@ -1,1 +1,2 @@
 pub mod Rule3
+pub mod Example
