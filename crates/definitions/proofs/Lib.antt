@@ -6,3 +6,4 @@ pub mod Arrays
 pub mod Valid
 pub mod Words
 pub mod Check
+pub mod Images
