@@ -17,4 +17,5 @@ pub mod CoverStart
 pub mod Shut
 pub mod Follow
 pub mod Rule3
+pub mod Reached
 pub mod Example

@@ -39,55 +39,59 @@ use Rattle.isolation.proofs.Shut.{GroupShut, shut-group, inter-refused}
 use Rattle.isolation.specs.Rule3.{Setting, Same, Rule3, Rule3Run}
 use Rattle.isolation.proofs.Follow.{namesGroup, struckBy, leftBy, SameOutside, EqualOutside, Reached, AlikeRuns, outcome-good, struck-alike}
 
--- ---- what a yes says
+-- ---- what an acceptance and a yes say
 
-pub record Yes (model estimate : List ℕ) (h : ℕ) : Type 0 where
+pub record CheckAccepted (model estimate : List ℕ) : Type 0 where
+  pub verdict : check model estimate ≡ accepted
   pub model-read : readModel model ≡ none
   pub estimate-read : readEstimate (nameCount model) (boxesOf model) estimate ≡ none
   pub clauses : firstBroken (modelOf model) (estimateOf estimate) ≡ none
+
+is-accepted : Verdict → Type 0
+is-accepted accepted = Unit
+is-accepted (breaks x) = ⊥
+is-accepted (refusedModel x) = ⊥
+is-accepted (refusedEstimate x) = ⊥
+
+pub check-accepted : (model estimate : List ℕ) → check model estimate ≡ accepted → CheckAccepted model estimate
+unfolding check is-accepted
+check-accepted model estimate e =
+    go (readModel model) refl (readEstimate (nameCount model) (boxesOf model) estimate) refl (firstBroken (modelOf model) (estimateOf estimate)) refl
+    (subst is-accepted (sym e) tt)
+  where
+    go : (a : Option Refusal) → readModel model ≡ a → (b : Option Refusal) → readEstimate (nameCount model) (boxesOf model) estimate ≡ b
+        → (c : Option Broken) → firstBroken (modelOf model) (estimateOf estimate) ≡ c
+        → is-accepted (afterModel a (afterEstimate b (verdictOf c))) → CheckAccepted model estimate
+    go none ea none eb none ec z = record { verdict = e; model-read = ea; estimate-read = eb; clauses = ec }
+    go none ea none eb (some x) ec z = absurd z
+    go none ea (some r) eb c ec z = absurd z
+    go (some r) ea b eb c ec z = absurd z
+
+pub record Yes (model estimate : List ℕ) (h : ℕ) : Type 0 where
+  pub accepts : CheckAccepted model estimate
   pub box : h < boxesOf model
   pub shut : T (shutOff (estimateOf estimate) (boxesOf model) h)
 
-not-yes : {v : Verdict} {b : Bool} → _≡_ {A = Reply} (notAccepted v) (isShutOff b) → ⊥
-not-yes e = subst (λ (r : Reply). code r) e tt
-  where
-    code : Reply → Type 0
-    code (notAccepted v) = Unit
-    code (nobody r) = Unit
-    code (isShutOff b) = ⊥
-
-nobody-yes : {r : Refusal} {b : Bool} → _≡_ {A = Reply} (nobody r) (isShutOff b) → ⊥
-nobody-yes e = subst (λ (r : Reply). code r) e tt
-  where
-    code : Reply → Type 0
-    code (notAccepted v) = Unit
-    code (nobody r) = Unit
-    code (isShutOff b) = ⊥
+is-answer : Reply → Type 0
+is-answer (notAccepted v) = ⊥
+is-answer (nobody r) = ⊥
+is-answer (isShutOff b) = T b
 
 pub question-yes : (model estimate : List ℕ) (h : ℕ) → question model estimate h ≡ isShutOff true → Yes model estimate h
-unfolding question check
+unfolding question is-answer
 question-yes model estimate h e =
-    go (readModel model) refl (readEstimate (nameCount model) (boxesOf model) estimate) refl (firstBroken (modelOf model) (estimateOf estimate)) refl
-    (h below boxesOf model) refl e
+    go (check model estimate) refl (h below boxesOf model) refl (subst is-answer (sym e) tt)
   where
     s : Bool
     s = shutOff (estimateOf estimate) (boxesOf model) h
 
-    go : (a : Option Refusal) → readModel model ≡ a → (b : Option Refusal) → readEstimate (nameCount model) (boxesOf model) estimate ≡ b
-        → (c : Option Broken) → firstBroken (modelOf model) (estimateOf estimate) ≡ c → (d : Bool) → (h below boxesOf model) ≡ d
-        → reply (afterModel a (afterEstimate b (verdictOf c))) (elim d [ true ↦ isShutOff s | false ↦ nobody (unplaced 12) ]) ≡ isShutOff true
-        → Yes model estimate h
-    go none ea none eb none ec true ed z = record {
-      model-read = ea;
-      estimate-read = eb;
-      clauses = ec;
-      box = simp tests at (of-true ed);
-      shut = of-true {b = shutOff (estimateOf estimate) (boxesOf model) h} cc;
-    }
-    go none ea none eb none ec false ed z = absurd (nobody-yes z)
-    go none ea none eb (some x) ec d ed z = absurd (not-yes z)
-    go none ea (some r) eb c ec d ed z = absurd (not-yes z)
-    go (some r) ea b eb c ec d ed z = absurd (not-yes z)
+    go : (v : Verdict) → check model estimate ≡ v → (d : Bool) → (h below boxesOf model) ≡ d
+        → is-answer (reply v (elim d [ true ↦ isShutOff s | false ↦ nobody (unplaced 12) ])) → Yes model estimate h
+    go accepted ev true ed z = record { accepts = check-accepted model estimate ev; box = simp tests at (of-true ed); shut = z }
+    go accepted ev false ed z = absurd z
+    go (breaks x) ev d ed z = absurd z
+    go (refusedModel x) ev d ed z = absurd z
+    go (refusedEstimate x) ev d ed z = absurd z
 
 -- ---- a list of steps is the moves made one after the other
 
@@ -172,7 +176,11 @@ module _ (h : ℕ) where
             a .words c l o ∙ ap (λ (r : Ran). recordOf (r .words) c) q ∙ sym (b .words c l o);
       }
 
--- what a start that is not refused leaves
+-- what a start that is not refused says of the model, and leaves
+pub start-read : (image words : List ℕ) → start image words .answer ≡ none → readModel image ≡ none
+unfolding start startRefusal
+start-read image words e = left-none (readModel image) (faultIf (length words isnt stateLength) (unplaced 10)) e
+
 pub start-words : (image words : List ℕ) → start image words .answer ≡ none → start image words .words ≡ startState (modelOf image)
 unfolding start
 start-words image words e = ap (λ (r : Option Refusal). written r (startState (modelOf image)) words) e
@@ -226,20 +234,22 @@ start-same h m₁ m₂ valid k b l o = pick (decLt b (boxCount m₁))
         start-record m₁ b l i ∙ ap startRecord (k .others b i (of-other h b o)) ∙ sym (start-record m₂ b l (omega (arith, k .count)))
     pick (no i) = start-lacking m₁ b l (omega arith) ∙ sym (start-lacking m₂ b l (omega (arith, k .count)))
 
+-- in a model that is not refused, from a state that obeys the state rules, a list of step calls makes its moves one after the other:
+-- no step refuses the model, the length or the state
+pub steps-are-moves : (model : List ℕ) → readModel model ≡ none → (st : List ℕ) → StateFits (modelOf model) st → (vs : List Move)
+    → steps model st vs ≡ makes (modelOf model) st vs
+steps-are-moves model read st fits vs =
+    steps-makes model read (StateFits (modelOf model)) (λ w k. k .size) (λ w k. state-iff (modelOf model) w .1 k)
+    (act-fits (modelOf model) (valid-image model read)) vs st fits
+
 -- ---- an image whose estimate is accepted
 
 module _ (model estimate : List ℕ) (h : ℕ) (yes : Yes model estimate h) where
-  m : Model
-  m = modelOf model
-
-  e : Estimate
-  e = estimateOf estimate
-
   pub image-valid : Valid (modelOf model)
-  image-valid = valid-image model (yes .model-read)
+  image-valid = valid-image model (yes .accepts .model-read)
 
   pub image-accepted : Accepted (modelOf model) (estimateOf estimate)
-  image-accepted = accepted-of (modelOf model) (estimateOf estimate) (yes .clauses) (image-valid .names)
+  image-accepted = accepted-of (modelOf model) (estimateOf estimate) (yes .accepts .clauses)
 
   pub image-shut : GroupShut (estimateOf estimate) (boxCount (modelOf model)) (one h)
   unfolding one
@@ -250,12 +260,6 @@ module _ (model estimate : List ℕ) (h : ℕ) (yes : Yes model estimate h) wher
 
   pub image-start : Good (modelOf model) (estimateOf estimate) (startState (modelOf model))
   image-start = good-start (modelOf model) image-valid (estimateOf estimate) image-accepted
-
-  -- from a start, a list of step calls makes its moves one after the other: no step refuses the model, the length or the state
-  pub steps-start : (vs : List Move) → steps model (startState (modelOf model)) vs ≡ makes (modelOf model) (startState (modelOf model)) vs
-  steps-start vs =
-      steps-makes model (yes .model-read) (Good (modelOf model) (estimateOf estimate)) (λ st g. g .fits .size) (λ st g. state-iff (modelOf model) st .1 (g .fits))
-      (good-next (modelOf model) image-valid (estimateOf estimate) image-accepted) vs (startState (modelOf model)) image-start
 
 -- ---- rule 3
 
@@ -276,7 +280,8 @@ module _ (model₁ model₂ estimate₁ estimate₂ : List ℕ) (h : ℕ) (words
 
   steps-same : Same h moves₁ moves₂ (steps model₁ (start model₁ words₁ .words) moves₁) (steps model₂ (start model₂ words₂ .words) moves₂)
   steps-same =
-      rw (start-words model₁ words₁ (s .started₁), start-words model₂ words₂ (s .started₂), steps-start model₁ estimate₁ h yes₁ moves₁, steps-start model₂ estimate₂ h yes₂ moves₂)
+      rw (start-words model₁ words₁ (s .started₁), start-words model₂ words₂ (s .started₂), steps-are-moves model₁ (yes₁ .accepts .model-read) _ (image-start model₁ estimate₁ h yes₁ .fits) moves₁,
+      steps-are-moves model₂ (yes₂ .accepts .model-read) _ (image-start model₂ estimate₂ h yes₂ .fits) moves₂)
       makes-same
 
   runs-same : (answers₁ answers₂ : List ℕ)
