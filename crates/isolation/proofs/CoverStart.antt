@@ -146,5 +146,5 @@ start-covered m good e acc = record { records = λ b h. rw (start-record m b (om
     at b h =
         let x = boxAt m b in
         let valid = good .box b h in
-        covers-record e b (startRecord x)
+        covers-record
         (λ t l. unbound x t) (λ i l. let k : i < siteCount x = rw (start-sites x) at l in rw (start-site x i (omega (arith, valid .mostSites)) k) (site-start b (siteAt x i) (valid .site i k .listed) (acc .site b h i k)))
