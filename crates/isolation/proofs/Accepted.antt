@@ -1,14 +1,13 @@
 -- An estimate with no broken clause meets every clause: the search's answer as a record of facts. Assumes nothing.
-use mathlib.Core.Path.{_≡_, refl}
-use mathlib.Core.Logic.{_≢_}
+use mathlib.Core.Path.{_≡_}
 use mathlib.Core.Bool.{Bool, true, false, not}
-use mathlib.Core.Option.{Option, none, some}
+use mathlib.Core.Option.{Option, none}
 use Prim.Native.Nat.{ℕ, _≤_, _<_}
 use lib.Dec.{T}
 use lib.ListN.{length}
 use Rattle.definitions.specs.Bounded.{_and_, _is_, faultIf, orElse, firstBelow}
-use Rattle.definitions.specs.Sets.{has, forEach, within, meets}
-use Rattle.definitions.specs.Model.{Site, Line, Box, Model, siteAt, lineAt, boxAt, siteCount, lineCount, boxCount, kind, restriction, output, input, expose, hide, unhide}
+use Rattle.definitions.specs.Sets.{meets}
+use Rattle.definitions.specs.Model.{Model, siteAt, lineAt, boxAt, siteCount, lineCount, boxCount, restriction, output, input, expose, hide, unhide}
 use Rattle.definitions.specs.Estimate.{Estimate}
 use Rattle.definitions.specs.Clauses.{Broken, broken, clause1, clause2, clause3, clause4, clause5, clause6, clause7, clause8, clause9, lineBroken, siteBroken, boxBroken, firstBroken}
 use Rattle.definitions.proofs.Bounded.{tests, and-iff, is-iff, left-none, right-none, fault-none, none-each}

@@ -1,26 +1,26 @@
 -- Each made move inside a box leaves its record covered; so does each end of an inter move. Assumes nothing.
-use mathlib.Core.Path.{_≡_, refl, ap, subst, sym, _∙_}
+use mathlib.Core.Path.{_≡_, refl, sym, _∙_}
 use mathlib.Core.Logic.{_⊎_, inl, inr, _≢_}
 use mathlib.Core.Bool.{Bool, true, false}
-use mathlib.Core.List.{List, [], _∷_}
-use Prim.Native.Nat.{ℕ, zero, suc, _+_, _≤_, _<_}
+use mathlib.Core.List.{List}
+use Prim.Native.Nat.{ℕ, _+_, _<_}
 use native.Mathlib.Omega.{arith}
 use lib.Dec.{T}
-use lib.ListN.{length, set, length-set}
+use lib.ListN.{length, length-set}
 use lib.Seq.{getD-set-other}
 use Rattle.definitions.specs.Bounded.{_is_, _isnt_, _and_, anyBelow}
 use Rattle.definitions.specs.Sets.{has, meets}
-use Rattle.definitions.specs.Model.{Line, Box, Model, lineAt, boxAt, boxCount, kind, boundAbove, nil, parallel, replication, restriction, output as opOutput, input as opInput, expose as opExpose, hide as opHide, unhide as opUnhide}
+use Rattle.definitions.specs.Model.{Line, Box, Model, boxAt, boxCount, kind, boundAbove, restriction, output as opOutput, input as opInput, hide as opHide, unhide as opUnhide}
 use Rattle.definitions.specs.Estimate.{Estimate}
 use Rattle.definitions.specs.Record.{held, heldNumber, stamp, threads, sites, site, thread, subject, flag, typeWord, line, binding, setStamp, putThread, goto, bind}
-use Rattle.definitions.specs.Start.{typeWords, freeHeld}
+use Rattle.definitions.specs.Start.{freeHeld}
 use Rattle.definitions.specs.Moves.{Inside, drop, spread, new, copy, expose, hide, unhide, intra, made, Ends, typesShare, valueIn, lineOf, onward, onwardWith, value1, value2, dropMove, spreadMove, newMove, copyMove, exposeMove, turnMove, intraMove, insideMove, interMove}
 use Rattle.definitions.proofs.Bounded.{and-iff, any-iff, is-iff, isnt-iff, of-true, not-false}
 use Rattle.definitions.proofs.Sets.{meets-iff}
 use Rattle.definitions.proofs.Valid.{ValidLine, ValidReach, Valid}
-use Rattle.isolation.proofs.Rules.{HeldFits, ThreadFits, thread-iff, SiteFits, site-iff, RecordFits}
-use Rattle.isolation.proofs.Made.{AtLine, SiteFound, IntraMade, InterMade, drop-made, spread-made, new-made, copy-made, expose-made, turn-made, intra-made, inter-made}
-use Rattle.isolation.proofs.Covers.{_⊆_, LineMet, Accepted, CoversThread, CoversSite, CoversRecord, covers-thread, covers-site}
+use Rattle.isolation.proofs.Rules.{ThreadFits, thread-iff, site-iff, RecordFits}
+use Rattle.isolation.proofs.Made.{InterMade, drop-made, spread-made, new-made, copy-made, expose-made, turn-made, intra-made, inter-made}
+use Rattle.isolation.proofs.Covers.{LineMet, Accepted, CoversThread, CoversSite, CoversRecord, covers-thread, covers-site}
 use Rattle.isolation.proofs.CoverEdits.{goto-covered, bind-covered, turn-covered, site-length, site-covered, Covered, set-stamp, put-threads, put-sites, put-thread, take-thread, push-thread, put-site, push-site}
 
 -- ---- held names

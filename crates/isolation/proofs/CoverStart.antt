@@ -1,24 +1,21 @@
 -- An accepted estimate covers the started state. Assumes nothing.
 use mathlib.Core.Path.{_≡_, refl, ap, ap₂, sym, _∙_}
-use mathlib.Core.Logic.{_≢_}
 use mathlib.Core.Bool.{Bool, true, false}
 use mathlib.Core.List.{List, [], _∷_, _++_}
 use Prim.Native.Nat.{ℕ, zero, suc, _+_, _-_, _*_, _≤_, _<_}
-use native.Mathlib.Nat.{mul-zero, mul-suc, mul-le-mul-left, not-suc-le-zero, le-refl}
+use native.Mathlib.Nat.{mul-zero, mul-suc, mul-le-mul-left, not-suc-le-zero}
 use native.Mathlib.Omega.{arith}
 use native.Mathlib.Decide.{ℕ-discrete}
-use lib.Dec.{T}
 use lib.ListN.{length, length-append}
 use Rattle.definitions.specs.Bounded.{_below_, flat}
-use Rattle.definitions.specs.Sets.{has}
-use Rattle.definitions.specs.Slots.{word, zeros, part, slot}
+use Rattle.definitions.specs.Slots.{word, zeros, slot}
 use Rattle.definitions.specs.Model.{Site, Box, Model, siteAt, boxAt, siteCount, boxCount}
 use Rattle.definitions.specs.Estimate.{Estimate}
-use Rattle.definitions.specs.Record.{threads, sites, site, thread, binding, recordOf}
-use Rattle.definitions.specs.Start.{typeWords, freeHeld, startSite, startRecord, startState}
+use Rattle.definitions.specs.Record.{threads, sites, site, thread, recordOf}
+use Rattle.definitions.specs.Start.{freeHeld, startSite, startRecord, startState}
 use Rattle.definitions.proofs.Bounded.{below-iff, true-of}
 use Rattle.definitions.proofs.Slots.{length-zeros, word-zeros, word-left, word-right, part-is, word-slot}
-use Rattle.definitions.proofs.Valid.{ValidSite, Valid}
+use Rattle.definitions.proofs.Valid.{Valid}
 use Rattle.isolation.proofs.Covers.{SiteMet, Accepted, CoversThread, CoversSite, CoversRecord, covers-record, Covers}
 use Rattle.isolation.proofs.CoverEdits.{site-length, site-covered}
 use Rattle.isolation.proofs.CoverMoves.{number-held}

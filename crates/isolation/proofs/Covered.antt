@@ -1,18 +1,17 @@
 -- Subject reduction (source paper 004, theorem 3.3): a made move leaves a covered state covered. Assumes nothing.
-use mathlib.Core.Path.{_≡_, refl, sym, _∙_}
-use mathlib.Core.Logic.{_≢_}
+use mathlib.Core.Path.{_≡_, _∙_}
 use mathlib.Core.List.{List}
-use Prim.Native.Nat.{ℕ, _+_, _*_, _≤_, _<_}
+use Prim.Native.Nat.{ℕ, _≤_, _<_}
 use native.Mathlib.Omega.{arith}
 use native.Mathlib.Decide.{ℕ-discrete}
 use lib.ListN.{length}
-use Rattle.definitions.specs.Model.{Model, boxAt, boxCount}
+use Rattle.definitions.specs.Model.{Model, boxCount}
 use Rattle.definitions.specs.Estimate.{Estimate}
 use Rattle.definitions.specs.Record.{recordOf, putRecord, lastStamps}
-use Rattle.definitions.specs.Moves.{Inside, Move, made, Ends, act}
+use Rattle.definitions.specs.Moves.{Inside, Move, made, act}
 use Rattle.definitions.proofs.Slots.{length-putSlot, slot-put-same, slot-put-other}
 use Rattle.definitions.proofs.Valid.{Valid}
-use Rattle.isolation.proofs.Rules.{RecordFits, StateFits}
+use Rattle.isolation.proofs.Rules.{StateFits}
 use Rattle.isolation.proofs.Made.{InsideMade, InterActMade, act-made}
 use Rattle.isolation.proofs.Covers.{Accepted, CoversRecord, Covers}
 use Rattle.isolation.proofs.CoverEdits.{Covered}

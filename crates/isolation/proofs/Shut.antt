@@ -1,11 +1,11 @@
 -- A group of boxes is shut off: in a covered state no inter move between a box inside and one outside is made. Assumes nothing.
-use mathlib.Core.Path.{_≡_, refl, sym, _∙_}
-use mathlib.Core.Logic.{_≢_, ⊎-elim}
+use mathlib.Core.Path.{_≡_, refl, sym}
+use mathlib.Core.Logic.{_≢_}
 use mathlib.Core.Bool.{Bool, true, false, not}
 use mathlib.Core.List.{List}
 use Prim.Native.Nat.{ℕ, _<_}
 use lib.Dec.{T, T-not}
-use Rattle.definitions.specs.Bounded.{_is_, _isnt_, _implies_, allBelow}
+use Rattle.definitions.specs.Bounded.{_is_}
 use Rattle.definitions.specs.Sets.{has, forSome, meets}
 use Rattle.definitions.specs.Model.{Model, boxAt, boxCount}
 use Rattle.definitions.specs.Estimate.{Estimate}
@@ -16,7 +16,7 @@ use Rattle.definitions.proofs.Bounded.{tests, is-iff, of-true, not-false}
 use Rattle.definitions.proofs.Sets.{forSome-iff, meets-comm}
 use Rattle.definitions.proofs.Valid.{Valid}
 use Rattle.isolation.proofs.Rules.{StateFits}
-use Rattle.isolation.proofs.Made.{InterActMade, inter-act, inter-made}
+use Rattle.isolation.proofs.Made.{inter-act, inter-made}
 use Rattle.isolation.proofs.Covers.{Covers}
 use Rattle.isolation.proofs.CoverMoves.{number-low, Linked, inter-linked}
 
