@@ -4,7 +4,7 @@ use mathlib.Core.List.{List, [], _∷_}
 use mathlib.Core.Option.{Option, none, some}
 use Prim.Native.Nat.{ℕ, zero, suc, _+_, _^_}
 use lib.ListN.{getD}
-use Rattle.definitions.specs.Bounded.{_and_, _is_, tabulate}
+use Rattle.definitions.specs.Bounded.{_and_, _is_, allBelow, tabulate}
 use Rattle.definitions.specs.Model.{Site, Line, Box, Model}
 use Rattle.definitions.specs.Estimate.{Estimate}
 use Rattle.definitions.specs.Clauses.{Broken, broken, firstBroken}
@@ -12,6 +12,7 @@ use Rattle.definitions.specs.Record.{thread, threads, line, binding, rec
 use Rattle.definitions.specs.Start.{startState, freeHeld}
 use Rattle.definitions.specs.Moves.{Move}
 use Rattle.definitions.specs.Calls.{Ran, makes}
+use Rattle.definitions.specs.Encode.{encodeModel, encodeEstimate}
 
 -- ---- model K. Names: 0 x, 1 z, 3 u, 4 v, 5 c are free, 2 y is received
 
@@ -113,3 +114,18 @@ agrees (moves vs answers seen) = let ran = makes K (startState K) vs in sameNumb
 unfoldable pub allAgree : List Case → Bool
 allAgree [] = true
 allAgree (x ∷ xs) = agrees x and allAgree xs
+
+-- ---- the images
+
+unfoldable pub imageK : List ℕ
+imageK = encodeModel K
+
+unfoldable pub imageE : List ℕ
+imageE = encodeEstimate 6 2 E
+
+-- two estimates have the same sets for so many names and boxes
+unfoldable pub sameSets : ℕ → ℕ → Estimate → Estimate → Bool
+sameSets names boxes d e =
+    allBelow names (λ n. d .rho n is e .rho n)
+    and allBelow boxes (λ b.
+    d .shown b is e .shown b and d .hidden b is e .hidden b and allBelow names (λ n. d .eps b n is e .eps b n and d .kap b n is e .kap b n))

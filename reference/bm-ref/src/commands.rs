@@ -1,5 +1,6 @@
 //! The commands: each gives the text to print.
 
+use bm::cases::{self, Case};
 use bm::model::Model;
 use bm::state::{self, STATE_WORDS};
 use bm::step;
@@ -141,4 +142,31 @@ pub fn dis(model: &str, estimate: Option<&str>) -> Answer {
     };
     let names = NameList::numbered(model.kinds().len());
     Ok(disassemble(&model, estimate.as_ref(), &names))
+}
+
+/// Writes cases into folders, and the list of their sorts.
+pub fn gen_cases(seed: &str, count: &str, dir: &str) -> Answer {
+    let number = |text: &str| text.parse::<u64>().map_err(|_| Failure::Usage);
+    let (seed, count) = (number(seed)?, number(count)?);
+    let mut index = String::new();
+    for at in 0..count {
+        let case = cases::case(seed, at);
+        let name = format!("case-{at:06}");
+        write_case(&format!("{dir}/{name}"), &case)?;
+        index.push_str(&format!("{name} {}\n", case.sort));
+    }
+    files::folder(dir)?;
+    files::write(&format!("{dir}/index.txt"), index.as_bytes())?;
+    Ok(String::new())
+}
+
+fn write_case(folder: &str, case: &Case) -> Result<(), String> {
+    files::folder(folder)?;
+    files::write(&format!("{folder}/model.blk"), &case.model)?;
+    files::write(&format!("{folder}/estimate.blk"), &case.estimate)?;
+    files::write(&format!("{folder}/moves.txt"), files::moves_text(&case.moves).as_bytes())?;
+    match &case.words {
+        Some(words) => files::write(&format!("{folder}/state.bin"), &files::word_bytes(words)),
+        None => Ok(()),
+    }
 }

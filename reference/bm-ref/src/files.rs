@@ -37,6 +37,20 @@ pub fn moves(path: &str) -> Result<Vec<Move>, String> {
     moves.collect()
 }
 
+/// The text of moves, five numbers a line.
+pub fn moves_text(moves: &[Move]) -> String {
+    let line = |mv: &Move| {
+        let [kind, box_no, thread, second_box, second_thread] = mv.numbers();
+        format!("{kind} {box_no} {thread} {second_box} {second_thread}\n")
+    };
+    moves.iter().map(line).collect()
+}
+
+/// Makes a folder, and those above it.
+pub fn folder(path: &str) -> Result<(), String> {
+    fs::create_dir_all(path).map_err(|error| format!("{path}: {error}"))
+}
+
 /// The words of a file, 32 bits each, little-endian. Bytes after the last
 /// whole word make one word more, so that the length is wrong.
 pub fn words(path: &str) -> Result<Vec<u32>, String> {

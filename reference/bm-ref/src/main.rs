@@ -28,7 +28,9 @@ bm-ref asm TEXT MODEL [ESTIMATE]
 bm-ref dis MODEL [ESTIMATE]
     prints the text of images
 bm-ref gen SEED COUNT DIR
-    writes cases into folders of DIR, and DIR/index.txt
+    writes cases into folders of DIR: model.blk, estimate.blk, moves.txt and,
+    where the moves do not go from a start, state.bin for --from; and
+    DIR/index.txt, the name and the sort of each
 A missing MODEL or ESTIMATE that is read counts as empty. The status is 0
 when the answer is printed, 1 when a text or file cannot be used, 2 when the
 arguments are not as above.";
@@ -82,6 +84,7 @@ fn answer(args: &[&str]) -> Result<String, Failure> {
         ["asm", text, model, estimate] => commands::asm(text, model, Some(estimate)),
         ["dis", model] => commands::dis(model, None),
         ["dis", model, estimate] => commands::dis(model, Some(estimate)),
+        ["gen", seed, count, dir] => commands::gen_cases(seed, count, dir),
         ["help" | "--help" | "-h"] => Ok(format!("{USAGE}\n")),
         _ => Err(Failure::Usage),
     }

@@ -153,3 +153,57 @@ fn listing_of_an_estimate() {
     let listing = printed(&folder, &["read", "m"]);
     assert!(listing.contains("site 1 0 3 0 {5}\nline 1 0 4 3 4 1 0 {}\nline 1 1 0 0 0 0 0 {}\n"));
 }
+
+/// All files below a folder with their bytes, by name.
+fn contents(folder: &Path) -> Vec<(String, Vec<u8>)> {
+    let mut files = Vec::new();
+    for entry in fs::read_dir(folder).unwrap() {
+        let path = entry.unwrap().path();
+        let name = path.file_name().unwrap().to_str().unwrap().to_string();
+        if path.is_dir() {
+            let inner = contents(&path).into_iter();
+            files.extend(inner.map(|(file, bytes)| (format!("{name}/{file}"), bytes)));
+        } else {
+            files.push((name, fs::read(&path).unwrap()));
+        }
+    }
+    files.sort();
+    files
+}
+
+#[test]
+fn generated_cases_can_be_used() {
+    let folder = fresh_folder("gen");
+    let count = bm::cases::sort_count();
+    let args = |seed, dir| ["gen", seed, "120", dir].map(str::to_string);
+    for (seed, dir) in [("5", "one"), ("5", "two"), ("6", "three")] {
+        let args = args(seed, dir);
+        printed(&folder, &args.each_ref().map(String::as_str));
+    }
+    let (one, two) = (contents(&folder.join("one")), contents(&folder.join("two")));
+    assert_eq!(one, two);
+    assert_ne!(one, contents(&folder.join("three")));
+    assert!(count <= 120, "{count} sorts");
+    let index = fs::read_to_string(folder.join("one/index.txt")).unwrap();
+    assert_eq!(index.lines().count(), 120);
+    for line in index.lines() {
+        let (name, sort) = line.split_once(' ').unwrap();
+        let case = folder.join("one").join(name);
+        let mut args = vec!["run", "model.blk", "moves.txt"];
+        if case.join("state.bin").exists() {
+            args.extend(["--from", "state.bin"]);
+        }
+        let said = printed(&case, &["check", "model.blk", "estimate.blk"]);
+        let said = said + &printed(&case, &args);
+        let number = sort.strip_prefix("refusal-").and_then(|rest| rest.split('-').next());
+        if let Some(number) = number {
+            let refused = said.lines().any(|line| {
+                line == number
+                    || line.starts_with(&format!("refused {number} "))
+                    || line.starts_with(&format!("refused model {number} "))
+                    || line.starts_with(&format!("refused estimate {number} "))
+            });
+            assert!(refused, "{name} {sort}: {said}");
+        }
+    }
+}

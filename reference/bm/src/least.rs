@@ -7,17 +7,22 @@ use crate::names::{NameNo, NameSet};
 
 /// The estimate that every accepted estimate of the model contains.
 pub fn least(model: &Model) -> Estimate {
-    let mut estimate = Estimate::EMPTY;
+    least_above(model, Estimate::EMPTY)
+}
+
+/// The least accepted estimate that contains the given members, which are
+/// names of the model.
+pub fn least_above(model: &Model, members: Estimate) -> Estimate {
+    let mut estimate = members;
     for name in model.free() {
-        estimate.rho[name.index()] = NameSet::one(name);
+        add(&mut estimate.rho[name.index()], NameSet::one(name));
     }
     for (box_no, def) in model.boxes().iter().enumerate() {
         let sets = &mut estimate.boxes[box_no];
         for site in def.sites() {
             let iota = if site.hidden { &mut sets.hidden } else { &mut sets.shown };
-            *iota = iota.with(site.subject);
-            let eps = &mut sets.eps[site.subject.index()];
-            *eps = eps.union(site.ty);
+            add(iota, NameSet::one(site.subject));
+            add(&mut sets.eps[site.subject.index()], site.ty);
         }
     }
     loop {

@@ -5,5 +5,5 @@ mod parse;
 mod print;
 
 pub use lex::TextError;
-pub use parse::{Assembled, assemble};
+pub use parse::{Assembled, assemble, renumbered};
 pub use print::{NameList, disassemble};

@@ -1,0 +1,418 @@
+//! Each refusal, each pair of neighbours in their order, and the edges.
+
+use bm::block::{BLOCK, seal};
+use bm::cases::crafted::{self, REFUSED_MOVES};
+use bm::cases::{k, walk};
+use bm::model::{Line, LineNo};
+use bm::state::{RECORD_WORDS, Record, STATE_WORDS, records};
+use bm::write::Draft;
+use bm::{Cause, Model, Move, NameKind, NameNo, NameSet, Refusal, calls};
+
+/// K's image after changes to single bytes, each block's check made anew.
+fn changed(changes: &[(usize, usize, u8)]) -> Vec<u8> {
+    let mut image = k::model().image();
+    let (blocks, _) = image.as_chunks_mut::<BLOCK>();
+    for (block, at, byte) in changes {
+        blocks[*block][*at] = *byte;
+        seal(&mut blocks[*block]);
+    }
+    image
+}
+
+fn refusal(image: &[u8]) -> (u8, u32, u32) {
+    let Refusal { cause, first, second } = Model::read(image).expect_err("a refusal");
+    (cause.number(), first, second)
+}
+
+/// The byte of a field of record `at` in a block.
+fn field(at: usize, field: usize) -> usize {
+    8 + 16 * at + field
+}
+
+#[test]
+fn length_before_check() {
+    let mut image = changed(&[]);
+    image[9] ^= 1;
+    assert_eq!(refusal(&image), (2, 0, 0));
+    image.truncate(700);
+    assert_eq!(refusal(&image), (1, 0, 0));
+    assert_eq!(refusal(&[]), (1, 0, 0));
+    assert_eq!(refusal(&[0; 511]), (1, 0, 0));
+    assert_eq!(refusal(&[0; 512]), (2, 0, 0));
+    assert_eq!(refusal(&[0; 20_992]), (2, 0, 0));
+    assert_eq!(refusal(&[0; 21_504]), (1, 0, 0));
+}
+
+#[test]
+fn missing_blocks_are_at_their_number() {
+    let image = changed(&[]);
+    assert_eq!(image.len(), 5 * BLOCK);
+    for kept in 1..5 {
+        assert_eq!(refusal(&image[..kept * BLOCK]), (1, kept as u32, 0));
+    }
+    let mut image = changed(&[]);
+    image[BLOCK + 20] ^= 1;
+    assert_eq!(refusal(&image[..4 * BLOCK]), (2, 1, 0));
+}
+
+#[test]
+fn check_before_heading() {
+    for (at, byte) in [(0, 9), (1, 1), (2, 7), (3, 1), (6, 1), (7, 1)] {
+        let mut image = changed(&[(1, at, byte)]);
+        assert_eq!(refusal(&image), (3, 1, 0));
+        image[BLOCK + 504] ^= 1;
+        assert_eq!(refusal(&image), (2, 1, 0));
+    }
+}
+
+#[test]
+fn heading_before_count_before_stray() {
+    assert_eq!(refusal(&changed(&[(0, 6, 1), (0, 8, 61)])), (3, 0, 0));
+    assert_eq!(refusal(&changed(&[(0, 8, 61)])), (4, 0, 0));
+    assert_eq!(refusal(&changed(&[(0, 4, 1), (0, 500, 1)])), (4, 0, 0));
+    assert_eq!(refusal(&changed(&[(0, 500, 1)])), (5, 0, 0));
+    assert_eq!(refusal(&changed(&[(0, 16, 9)])), (4, 0, 0));
+    assert_eq!(refusal(&changed(&[(0, 8 + 16, 4)])), (4, 0, 0));
+    assert_eq!(refusal(&changed(&[(1, 4, 17), (1, 490, 1)])), (4, 1, 0));
+    assert_eq!(refusal(&changed(&[(1, 4, 0)])), (4, 1, 0));
+    assert_eq!(refusal(&changed(&[(1, 490, 1)])), (5, 1, 0));
+    assert_eq!(refusal(&changed(&[(2, 4, 32)])), (4, 2, 0));
+    assert_eq!(refusal(&changed(&[(2, 4, 0)])), (4, 2, 0));
+    assert_eq!(refusal(&changed(&[(2, 4, 3)])), (5, 2, 0));
+}
+
+#[test]
+fn block_by_block() {
+    assert_eq!(refusal(&changed(&[(1, 490, 1), (2, 6, 1)])), (5, 1, 0));
+    let mut image = changed(&[(1, 490, 1)]);
+    image[2 * BLOCK + 9] ^= 1;
+    assert_eq!(refusal(&image), (5, 1, 0));
+}
+
+#[test]
+fn stray_before_site() {
+    let site = (1, field(0, 0), 2);
+    assert_eq!(refusal(&changed(&[site])), (6, 0, 0));
+    assert_eq!(refusal(&changed(&[site, (4, 500, 1)])), (5, 4, 0));
+}
+
+#[test]
+fn site_then_line_then_tree_then_reach() {
+    let site_of_1 = (3, field(0, 0), 0);
+    let line_of_0 = (2, field(1, 0), 9);
+    let line_of_1 = (4, field(0, 0), 9);
+    let tree_of_0 = (2, field(0, 4), 0);
+    let tree_of_1 = (4, field(0, 4), 0);
+    let reach_of_0 = (2, field(3, 2), 2);
+    assert_eq!(refusal(&changed(&[site_of_1])), (6, 1, 0));
+    assert_eq!(refusal(&changed(&[line_of_0])), (7, 0, 1));
+    assert_eq!(refusal(&changed(&[tree_of_0])), (8, 0, 0));
+    assert_eq!(refusal(&changed(&[reach_of_0])), (9, 0, 3));
+    assert_eq!(refusal(&changed(&[site_of_1, line_of_0])), (6, 1, 0));
+    assert_eq!(refusal(&changed(&[line_of_1, tree_of_0])), (7, 1, 0));
+    assert_eq!(refusal(&changed(&[tree_of_1, reach_of_0])), (8, 1, 0));
+}
+
+#[test]
+fn left_over_blocks() {
+    let mut image = changed(&[]);
+    image.extend_from_slice(&[0; BLOCK]);
+    assert_eq!(refusal(&image), (2, 5, 0));
+    let (blocks, _) = image.as_chunks_mut::<BLOCK>();
+    seal(&mut blocks[5]);
+    assert_eq!(refusal(&image), (3, 5, 0));
+    image.extend_from_slice(&[0; BLOCK]);
+    assert_eq!(refusal(&image), (3, 5, 0));
+}
+
+#[test]
+fn estimate_refusals_come_after_the_model() {
+    let model = k::model().image();
+    let estimate = k::estimate().image(2);
+    let line = |estimate: &[u8]| calls::check(&model, estimate).to_string();
+    assert_eq!(line(&estimate[..4 * BLOCK]), "refused estimate 1 0 0");
+    assert_eq!(line(&[estimate.as_slice(), &[0; BLOCK]].concat()), "refused estimate 1 0 0");
+    let change = |block: usize, at: usize, byte: u8| {
+        let mut image = estimate.clone();
+        let (blocks, _) = image.as_chunks_mut::<BLOCK>();
+        blocks[block][at] = byte;
+        seal(&mut blocks[block]);
+        line(&image)
+    };
+    assert_eq!(change(3, 3, 0), "refused estimate 3 3 0");
+    assert_eq!(change(3, 4, 1), "refused estimate 4 3 0");
+    assert_eq!(change(3, 8, 0x40), "refused estimate 5 3 0");
+    assert_eq!(change(0, 8 + 8 * 6, 1), "refused estimate 5 0 0");
+    assert_eq!(change(0, 8 + 8 * 60, 1), "refused estimate 5 0 0");
+    assert_eq!(change(2, 8 + 8 * 61, 1), "refused estimate 5 2 0");
+    assert_eq!(change(1, 8 + 8 * 61, 1), "accepted");
+    assert_eq!(change(1, 8 + 8 * 61, 0x40), "refused estimate 5 1 0");
+    assert_eq!(calls::check(&model[1..], &[]).to_string(), "refused model 1 0 0");
+}
+
+#[test]
+fn model_before_room_before_spoilt_before_moves() {
+    let bad_reach = changed(&[(2, field(3, 2), 2)]);
+    let good = changed(&[]);
+    let unknown = Move::new([0; 5]);
+    let mut short = vec![0; STATE_WORDS - 1];
+    let mut spoilt = vec![1; STATE_WORDS];
+    let step = |image: &[u8], words: &mut [u32]| {
+        let before = words.to_vec();
+        let refusal = calls::step(image, words, unknown).expect_err("a refusal");
+        assert_eq!(before, words);
+        (refusal.cause.number(), refusal.first, refusal.second)
+    };
+    assert_eq!(step(&bad_reach, &mut short), (9, 0, 3));
+    assert_eq!(step(&good, &mut short), (10, 0, 0));
+    assert_eq!(step(&good, &mut spoilt), (11, 0, 0));
+    let mut words = walk::start(&Model::read(&good).unwrap());
+    assert_eq!(step(&good, &mut words), (12, 0, 0));
+
+    let mut answers = [77; 2];
+    let run = calls::run(&good, &mut spoilt, &[unknown], &mut answers);
+    assert_eq!(run, Err(Cause::Room.plain()));
+    let run = calls::run(&good, &mut spoilt, &[unknown; 2], &mut answers);
+    assert_eq!(run, Err(Cause::Spoilt.plain()));
+    assert_eq!(calls::run(&good, &mut short, &[], &mut []), Err(Cause::Room.plain()));
+    assert_eq!(calls::run(&bad_reach, &mut short, &[], &mut []), Err(Cause::Reach.at(0, 3)));
+    assert_eq!(answers, [77; 2]);
+    assert_eq!(calls::start(&good, &mut short), Err(Cause::Room.plain()));
+    assert_eq!(calls::start(&bad_reach, &mut short), Err(Cause::Reach.at(0, 3)));
+    assert!(short.iter().all(|word| *word == 0));
+}
+
+#[test]
+fn each_refused_move() {
+    for refused in &REFUSED_MOVES {
+        let image = crafted::image(refused.text);
+        let mut words = walk::start(&Model::read(&image).unwrap());
+        words[0] = refused.stamp;
+        let (last, before) = refused.moves.split_last().unwrap();
+        for mv in before {
+            assert_eq!(calls::step(&image, &mut words, Move::new(*mv)), Ok(()));
+        }
+        let answer = calls::step(&image, &mut words, Move::new(*last));
+        assert_eq!(answer.unwrap_err().cause.number(), refused.number);
+    }
+}
+
+/// The answer to the last of some moves from the start of a text's model,
+/// after a change of the start's words.
+fn last_answer(text: &str, change: impl Fn(&mut [u32]), moves: &[[u32; 5]]) -> u8 {
+    let model = crafted::model(text);
+    let mut words = walk::start(&model);
+    change(&mut words);
+    let moves: Vec<Move> = moves.iter().copied().map(Move::new).collect();
+    let mut answers = vec![99; moves.len()];
+    bm::step::run(&model, &mut words, &moves, &mut answers).expect("a run");
+    *answers.last().unwrap()
+}
+
+/// Of 12 to 20, the pairs 15 and 16 and 18 and 19 belong to different kinds
+/// of move, so no move has both.
+#[test]
+fn moves_in_order() {
+    let none = |_: &mut [u32]| {};
+    let k = "free x z received y free u v c
+        box site x {c} x(y).0 | x<z>.0 box site u {c} u<v>.0";
+    // 12 and 13: no such thread or box, twice.
+    assert_eq!(last_answer(k, none, &[[8, 0, 7, 0, 7]]), 12);
+    assert_eq!(last_answer(k, none, &[[9, 5, 0, 5, 0]]), 12);
+    assert_eq!(last_answer(k, none, &[[9, 0, 0, 0, 9]]), 12);
+    // 13 and 14: one thread twice, at a line of the wrong sort.
+    assert_eq!(last_answer(k, none, &[[8, 0, 0, 0, 0]]), 13);
+    assert_eq!(last_answer(k, none, &[[9, 0, 0, 0, 0]]), 13);
+    // 14 and 15: two outputs on different channels.
+    let outputs = "free x z c box site x {c} x<z>.0 | z<x>.0";
+    assert_eq!(last_answer(outputs, none, &[[2, 0, 0, 0, 0], [8, 0, 0, 0, 1]]), 14);
+    // 14 and 16: an output on no site as the input end.
+    let no_site = "free x z u c box site x {c} z<x>.0 box site u {c} u<x>.0";
+    assert_eq!(last_answer(no_site, none, &[[9, 0, 0, 1, 0]]), 14);
+    // 16 and 17: hidden on either side, and unfit.
+    let ends = |one: &str, other: &str, ty: &str| {
+        format!(
+            "free x u v c d received y restricted n
+            box {one} x {{c}} x(y).0 box {other} u {{{ty}}} new n.u<n>.0"
+        )
+    };
+    let sent = [[3, 1, 0, 0, 0], [9, 0, 0, 1, 0]];
+    assert_eq!(last_answer(&ends("hidden", "site", "d"), none, &sent), 16);
+    assert_eq!(last_answer(&ends("site", "hidden", "d"), none, &sent), 16);
+    // 16 and 18.
+    assert_eq!(last_answer(&ends("hidden", "site", "c"), none, &sent), 16);
+    // 17 and 18.
+    assert_eq!(last_answer(&ends("site", "site", "d"), none, &sent), 17);
+    assert_eq!(last_answer(&ends("site", "site", "c"), none, &sent), 18);
+    // 19 and 20: sixteen sites, and the last stamp.
+    let sites: String = (0..16).map(|at| format!("site s{at} {{c}} ")).collect();
+    let names: String = (0..16).map(|at| format!("s{at} ")).collect();
+    let full = format!("free c {names} exposed e box {sites} expose e {{c}}.0");
+    let spent = |words: &mut [u32]| words[0] = 65_535;
+    assert_eq!(last_answer(&full, spent, &[[5, 0, 0, 0, 0]]), 19);
+    assert_eq!(last_answer(&full, none, &[[5, 0, 0, 0, 0]]), 19);
+    let room = "free c x exposed e box site x {c} expose e {c}.0";
+    assert_eq!(last_answer(room, spent, &[[5, 0, 0, 0, 0]]), 20);
+    assert_eq!(last_answer(room, none, &[[5, 0, 0, 0, 0]]), 0);
+}
+
+/// A draft of one box whose lines are a chain of outputs and a nil.
+fn chain(lines: usize) -> Draft {
+    let mut draft = k::model();
+    draft.boxes.truncate(1);
+    let output = |at: usize| Line::Output { on: k::X, of: k::Z, next: LineNo(at as u16 + 1) };
+    draft.boxes[0].lines = (0..lines - 1).map(output).collect();
+    draft.boxes[0].lines.push(Line::Nil);
+    draft
+}
+
+#[test]
+fn line_blocks() {
+    for (lines, blocks) in
+        [(1, 1), (30, 1), (31, 2), (32, 2), (61, 2), (62, 3), (92, 3), (93, 4), (123, 4), (124, 4)]
+    {
+        let image = chain(lines).image();
+        assert_eq!(image.len(), (2 + blocks) * BLOCK);
+        let model = Model::read(&image).unwrap();
+        assert_eq!(model.boxes()[0].lines().len(), lines);
+        let cut = &image[..(1 + blocks) * BLOCK];
+        assert_eq!(refusal(cut), (1, 1 + blocks as u32, 0));
+        let mut more = image.clone();
+        more.extend_from_slice(&image[(1 + blocks) * BLOCK..]);
+        let (blocks_of, _) = more.as_chunks_mut::<BLOCK>();
+        blocks_of[2 + blocks][0] = 2 + blocks as u8;
+        seal(&mut blocks_of[2 + blocks]);
+        assert_eq!(refusal(&more), (3, 2 + blocks as u32, 0));
+    }
+}
+
+#[test]
+fn limits_of_names_and_boxes() {
+    for (names, answer) in [(60, None), (61, Some((4, 0, 0)))] {
+        let draft = Draft { kinds: vec![NameKind::Free; names], boxes: Vec::new() };
+        let image = draft.image();
+        assert_eq!(Model::read(&image).err().map(|_| refusal(&image)), answer);
+    }
+    let mut full = Draft { kinds: vec![NameKind::Free; 60], boxes: Vec::new() };
+    for subject in 0..8 {
+        let mut def = chain(124).boxes.remove(0);
+        def.sites[0].subject = NameNo(subject);
+        def.sites[0].ty = NameSet::one(NameNo(59));
+        full.boxes.push(def);
+    }
+    let image = full.image();
+    assert_eq!(image.len(), 20_992);
+    assert_eq!(Model::read(&image).unwrap().boxes().len(), 8);
+}
+
+#[test]
+fn sixteen_threads() {
+    let copies = "free x c box site x {c} !0";
+    assert_eq!(last_answer(copies, |_| {}, &[[4, 0, 0, 0, 0]; 15]), 0);
+    assert_eq!(last_answer(copies, |_| {}, &[[4, 0, 0, 0, 0]; 16]), 19);
+    let spreads = "free x c box site x {c} !(0 | 0)";
+    let mut moves = vec![[4, 0, 0, 0, 0]; 15];
+    moves.push([2, 0, 1, 0, 0]);
+    assert_eq!(last_answer(spreads, |_| {}, &moves), 19);
+    moves.remove(0);
+    assert_eq!(last_answer(spreads, |_| {}, &moves), 0);
+}
+
+#[test]
+fn last_stamps() {
+    let text = "free x c restricted n box site x {c} new n.0";
+    for (stamp, answer) in [(0, 0), (65_534, 0), (65_535, 20)] {
+        let set = |words: &mut [u32]| words[0] = stamp;
+        assert_eq!(last_answer(text, set, &[[3, 0, 0, 0, 0]]), answer);
+    }
+    let model = crafted::model(text);
+    let mut words = walk::start(&model);
+    words[0] = 65_536;
+    let refused = bm::step::step(&model, &mut words, Move::new([3, 0, 0, 0, 0]));
+    assert_eq!(refused, Err(Cause::Spoilt));
+}
+
+/// The false shortcut of places: the second site is hidden by its name.
+#[test]
+fn sites_are_found_by_held_name() {
+    let model = crafted::model("free x z c box site x {c} site z {c} hide z.unhide z.hide z.0");
+    let mut words = walk::start(&model);
+    let hidden = |words: &[u32]| {
+        let record = Record(&records(words).unwrap()[0]);
+        record.sites().map(|site| site.hidden()).collect::<Vec<bool>>()
+    };
+    bm::step::step(&model, &mut words, Move::new([6, 0, 0, 0, 0])).unwrap();
+    assert_eq!(hidden(&words), [false, true]);
+    bm::step::step(&model, &mut words, Move::new([7, 0, 0, 0, 0])).unwrap();
+    assert_eq!(hidden(&words), [false, false]);
+    let unhide = bm::step::step(&model, &mut words, Move::new([7, 0, 0, 0, 0]));
+    assert_eq!(unhide, Err(Cause::WrongLine));
+}
+
+/// The false shortcut of numbers: two stamps of one exposed name differ as
+/// types, and as channels.
+#[test]
+fn two_stamps_do_not_meet() {
+    // Box 0 makes e twice and sends the first to box 1; each end then has a
+    // site whose type is one of the two.
+    let text = "free x u c v received r w exposed e f g
+        box site x {c} !expose e {c}.(x<e>.0 | expose f {e}.f<v>.0)
+        box site u {c} u(r).expose g {r}.g(w).0";
+    let model = crafted::model(text);
+    let mut words = walk::start(&model);
+    let mut step = |numbers| bm::step::step(&model, &mut words, Move::new(numbers));
+    for numbers in [
+        [4, 0, 0, 0, 0],
+        [4, 0, 0, 0, 0],
+        [5, 0, 1, 0, 0],
+        [5, 0, 2, 0, 0],
+        [2, 0, 1, 0, 0],
+        [2, 0, 2, 0, 0],
+        [5, 0, 3, 0, 0],
+        [5, 0, 4, 0, 0],
+        [9, 1, 0, 0, 1],
+        [5, 1, 0, 0, 0],
+    ] {
+        assert_eq!(step(numbers), Ok(()), "{numbers:?}");
+    }
+    assert_eq!(step([9, 1, 0, 0, 4]), Err(Cause::Unfit));
+    assert_eq!(step([9, 1, 0, 0, 3]), Ok(()));
+}
+
+/// The false shortcut of one counter: each box counts its own stamps.
+#[test]
+fn stamps_are_counted_per_box() {
+    let text = "free x u c restricted m n
+        box site x {c} new m.0 box site u {c} new n.0";
+    let model = crafted::model(text);
+    let mut words = walk::start(&model);
+    for box_no in [1, 0] {
+        bm::step::step(&model, &mut words, Move::new([3, box_no, 0, 0, 0])).unwrap();
+    }
+    assert_eq!((words[0], words[RECORD_WORDS]), (1, 1));
+}
+
+/// The false shortcut of one box: clause 6 asks of other boxes only.
+#[test]
+fn clause_six_asks_of_other_boxes() {
+    let text = "free x z c received y box site x {c} site z {c} x(y).0 | z<c>.0";
+    let model = crafted::model(text);
+    let least = bm::least::least(&model);
+    assert!(least.rho(NameNo(3)).is_empty());
+    assert_eq!(bm::clauses::check(&model, &least), Ok(()));
+}
+
+/// The expose type is stored ascending, without repeats.
+#[test]
+fn types_without_repeats() {
+    let text = "free a b x c received y exposed e
+        box site x {c} x(y).expose e {y, b, a}.0 | x<b>.0";
+    let model = crafted::model(text);
+    let mut words = walk::start(&model);
+    for numbers in [[2, 0, 0, 0, 0], [8, 0, 0, 0, 1], [5, 0, 0, 0, 0]] {
+        bm::step::step(&model, &mut words, Move::new(numbers)).unwrap();
+    }
+    let site = Record(&records(&words).unwrap()[0]).sites().nth(1).unwrap();
+    assert_eq!(site.type_words(), [1, 2]);
+    assert_eq!((site.subject(), site.hidden()), (bm::Held::new(NameNo(5), 1), false));
+}
