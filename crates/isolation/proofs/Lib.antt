@@ -10,3 +10,10 @@ pub mod CoverStart
 pub mod Shut
 pub mod Follow
 pub mod Rule3
+pub mod KeepHeld
+pub mod TypeWords
+pub mod KeepSite
+pub mod KeepRecord
+pub mod KeepMoves
+pub mod KeepState
+pub mod StartFits
