@@ -16,7 +16,8 @@ use Rattle.definitions.specs.Start.{typeWords}
 use Rattle.definitions.proofs.Slots.{Apart, length-putSlot, slot-put-same, slot-put-other, word-putSlot}
 use Rattle.definitions.proofs.Arrays.{Outside, slots-frame, push-length, push-outside, push-count, push-same, push-other, take-length, take-outside, take-count, take-below, take-above}
 use Rattle.isolation.proofs.Covers.{CoversThread, CoversSite, CoversRecord, covers-thread, covers-site, covers-record}
-use Rattle.isolation.proofs.CoverTypes.{length-typeWords, type-each}
+use Rattle.isolation.proofs.TypeWords.{length-typeWords, type-each}
+use Rattle.isolation.proofs.KeepSite.{typeWord-is}
 
 -- ---- the live slots of an array: each has a property
 
@@ -81,11 +82,8 @@ pub site-covered : (e : Estimate) (b v f : ℕ) (hold : ℕ → ℕ) (type : ℕ
 site-covered e b v f hold type p q k = record {
   shown = p;
   hidden = q;
-  types = λ j h. rw (at j) (type-each hold type (λ w. T (has (e .eps b (heldNumber v)) (heldNumber w))) k j h);
+  types = λ j h. rw (typeWord-is v f (typeWords hold type) j) (type-each hold type (λ w. T (has (e .eps b (heldNumber v)) (heldNumber w))) k j h);
 }
-  where
-    at : (j : ℕ) → word (v ∷ f ∷ typeWords hold type) (2 + j) ≡ word (typeWords hold type) j
-    at j = ap (λ (i : ℕ). word (v ∷ f ∷ typeWords hold type) i) (let z : 2 + j ≡ suc (suc j) = omega arith in z)
 
 -- ---- a record: its length, its counts within their limits, and all covered
 

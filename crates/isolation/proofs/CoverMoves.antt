@@ -19,15 +19,12 @@ use Rattle.definitions.proofs.Bounded.{and-iff, any-iff, is-iff, isnt-iff, of-t
 use Rattle.definitions.proofs.Sets.{meets-iff}
 use Rattle.definitions.proofs.Valid.{ValidLine, ValidReach, Valid}
 use Rattle.isolation.proofs.Rules.{ThreadFits, thread-iff, site-iff, RecordFits}
+use Rattle.isolation.proofs.KeepHeld.{number-held}
 use Rattle.isolation.proofs.Made.{InterMade, drop-made, spread-made, new-made, copy-made, expose-made, turn-made, intra-made, inter-made}
 use Rattle.isolation.proofs.Covers.{LineMet, Accepted, CoversThread, CoversSite, CoversRecord, covers-thread, covers-site}
 use Rattle.isolation.proofs.CoverEdits.{goto-covered, bind-covered, turn-covered, site-length, site-covered, Covered, set-stamp, put-threads, put-sites, put-thread, take-thread, push-thread, put-site, push-site}
 
 -- ---- held names
-
-pub number-held : (n s : ℕ) → n < 64 → heldNumber (held n s) ≡ n
-unfolding heldNumber held
-number-held n s h = omega arith
 
 pub number-low : (v : ℕ) → heldNumber v < 64
 unfolding heldNumber
@@ -192,7 +189,7 @@ module _ {m : Model} {e : Estimate} {b : ℕ} {r : List ℕ} (k : Here m e b r) 
       let c = made-sites t h n v in
       let site =
       site-covered e b v 0 hold type (λ _. rw q (met t h .clause7shown o)) (λ f. absurd (f refl))
-      (λ g a p. rw q (met t h .clause7type o g a p _ (number-low (hold g)) (value-in t h g (valid t h .exposeType o g p) (reach t h .exposeReach o g p)))) in
+      (λ g a p. rw q (met t h .clause7type o g a p _ (number-low (hold g)) (value-in t h g (valid t h .exposeType o g a p) (reach t h .exposeReach o g a p)))) in
       rw (d .3) (push-site (made-name t h n l (met t h .clause7 o)) (omega (arith, d .1)) _ (site-length v 0 hold type) site)
 
   -- a site turned by hide or unhide: its subject is where its new flag says

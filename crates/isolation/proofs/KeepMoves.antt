@@ -97,10 +97,10 @@ module _ (m : Model) (valid : Valid m) (b : ℕ) (hb : b < boxCount m) (last : �
         value-fits m last (boxAt m b) (thread r t) here (valid .names) (lineFor m b r t .name2) (line-valid .sentListed e) (line-reach .outputSent e)
 
     -- the names of an expose's type
-    type-fits : lineFor m b r t .op ≡ opExpose → (n : ℕ) → T (has (lineFor m b r t .type) n)
+    type-fits : lineFor m b r t .op ≡ opExpose → (n : ℕ) → n < 64 → T (has (lineFor m b r t .type) n)
         → HeldFits m last (valueIn (m .kinds) (thread r t) n)
-    type-fits e n i =
-        value-fits m last (boxAt m b) (thread r t) here (valid .names) n (line-valid .exposeType e n i) (line-reach .exposeReach e n i)
+    type-fits e n l i =
+        value-fits m last (boxAt m b) (thread r t) here (valid .names) n (line-valid .exposeType e n l i) (line-reach .exposeReach e n l i)
 
   -- ---- the moves
 
@@ -297,7 +297,7 @@ module _ (m : Model) (valid : Valid m) (b : ℕ) (hb : b < boxCount m) (last : �
             push-site-keeps m next (boxAt m b) s (stamped-fits makes next up (q ∙ stamp-is) room) more-sites y
             (site-fits m next (newHeld m b r t) 0 hold (lineFor m b r t .type) (new-fits makes next up (q ∙ stamp-is))
             (inr (rw (number-held (lineFor m b r t .name1) (stamp r + 1) (made64 makes)) (good .exposeKind e))) (omega arith) (good .exposeSize e)
-            (λ i l j. held-up m last next up (hold i) (type-fits m valid b hb last r k t h e i j)))
+            (λ i l j. held-up m last next up (hold i) (type-fits m valid b hb last r k t h e i l j)))
             (λ i l. rw (stamped-site i (omega arith)) (fresh makes counted i (omega (arith, stamped-sites))));
       }
 

@@ -2,7 +2,6 @@ pub mod Covers
 pub mod Rules
 pub mod Made
 pub mod Accepted
-pub mod CoverTypes
 pub mod CoverEdits
 pub mod CoverMoves
 pub mod Covered

@@ -122,7 +122,7 @@ module _ (m : Model) (last : ℕ → ℕ) (most : length (m .kinds) ≤ 60) wher
       let listed = v .listed in
       site-fits m last (freeHeld (s .subject)) (s .flag) freeHeld (s .type)
       (free-fits m last (s .subject) (omega arith) listed (v .free)) (inl (rw (number-held (s .subject) 0 (omega arith)) (v .free))) (v .flagFits) (v .typeSize)
-      (λ n l t. free-fits m last n l (v .typeListed n t) (v .typeFree n t))
+      (λ n l t. free-fits m last n l (v .typeListed n l t) (v .typeFree n l t))
 
   pub start-record-fits : (b : ℕ) → ValidBox m b (boxAt m b) → RecordFits m last (boxAt m b) (startRecord (boxAt m b))
   start-record-fits b v =
