@@ -41,13 +41,13 @@ pub record Here (m : Model) (e : Estimate) (b : ℕ) (r : List ℕ) : Type 0 whe
   pub covers : CoversRecord e b r
 
 -- thread t's line, and the numbers of what its first and its second name stand for
-abbrev lineHere : Model → ℕ → List ℕ → ℕ → Line
+abbrev pub lineHere : Model → ℕ → List ℕ → ℕ → Line
 lineHere m b r t = lineOf (m .kinds) (boxAt m b) r t
 
-abbrev number1 : Model → ℕ → List ℕ → ℕ → ℕ
+abbrev pub number1 : Model → ℕ → List ℕ → ℕ → ℕ
 number1 m b r t = heldNumber (value1 (m .kinds) (boxAt m b) r t)
 
-abbrev number2 : Model → ℕ → List ℕ → ℕ → ℕ
+abbrev pub number2 : Model → ℕ → List ℕ → ℕ → ℕ
 number2 m b r t = heldNumber (value2 (m .kinds) (boxAt m b) r t)
 
 -- name n is free, or bound strictly above thread t's line
@@ -105,8 +105,8 @@ module _ {m : Model} {e : Estimate} {b : ℕ} {r : List ℕ} (k : Here m e b r) 
     unfolding value2
     output-of o = value-in (lineHere m b r t .name2) (valid .sentListed o) (reach .outputSent o)
 
-    -- clause 4: what is sent is in kap at the channel
-    sent-in : lineHere m b r t .op ≡ opOutput → T (has (e .kap b (number1 m b r t)) (number2 m b r t))
+    -- clause 4: what is sent is in kap at the channel (source paper 004, theorem 3.4)
+    pub sent-in : lineHere m b r t .op ≡ opOutput → T (has (e .kap b (number1 m b r t)) (number2 m b r t))
     sent-in o = met .clause4 o (number1 m b r t) (number-low _) (output-on o) (number2 m b r t) (number-low _) (output-of o)
 
     -- the words that a thread goes on with

@@ -1,5 +1,5 @@
 -- A group of boxes is shut off: in a covered state no inter move between a box inside and one outside is made. Assumes nothing.
-use mathlib.Core.Path.{_≡_, refl, sym}
+use mathlib.Core.Path.{_≡_, refl, ap, sym, _∙_}
 use mathlib.Core.Logic.{_≢_}
 use mathlib.Core.Bool.{Bool, true, false, not}
 use mathlib.Core.List.{List}
@@ -57,3 +57,14 @@ inter-refused m good e inside g st fit cov b t c u w d z =
     inter-linked (m .kinds) (boxAt m b) (boxAt m c) e b c (recordOf st b) (recordOf st c) (cov .records b (i .box)) (cov .records c (i .box2)) t u (i .ends)
     (inter-made (m .kinds) (boxAt m b) (recordOf st b) (boxAt m c) (recordOf st c) t u (i .ends) (i .makes)) in
     linked-shut e (boxCount m) inside g b c (value1 (m .kinds) (boxAt m b) (recordOf st b) t) (value1 (m .kinds) (boxAt m c) (recordOf st c) u) (i .box) (i .box2) d k
+
+-- the same, as it is used: a made inter move has both its ends inside, or both outside
+pub inter-same-side : (m : Model) → Valid m → (e : Estimate) → (inside : ℕ → Bool) → GroupShut e (boxCount m) inside → (st : List ℕ) → StateFits m st → Covers m e st
+    → (b t c u : ℕ) (w : List ℕ) → interAct m st b t c u ≡ made w → inside b ≡ inside c
+inter-same-side m good e inside g st fit cov b t c u w z = pick (inside b) refl (inside c) refl
+  where
+    pick : (x : Bool) → inside b ≡ x → (y : Bool) → inside c ≡ y → inside b ≡ inside c
+    pick true p true q = p ∙ sym q
+    pick false p false q = p ∙ sym q
+    pick true p false q = absurd (inter-refused m good e inside g st fit cov b t c u w (p ∙ sym (ap not q)) z)
+    pick false p true q = absurd (inter-refused m good e inside g st fit cov b t c u w (p ∙ sym (ap not q)) z)
