@@ -52,7 +52,7 @@ module _ (m : Model) (last : ℕ → ℕ) where
       → 1 ≤ s → s ≤ last b → HeldFits m last (held n s)
   made-fits n s b h l k z o p q = held-fits n s h l k (λ e. absurd (z e)) (λ _. (b, o, p, q))
 
--- ---- stamps go up
+-- ---- stamps go up: a last stamp bounds from above only, so what was in order stays so
 
 module _ (m : Model) (last next : ℕ → ℕ) (up : (b : ℕ) → last b ≤ next b) where
   pub held-up : (v : ℕ) → HeldFits m last v → HeldFits m next v

@@ -23,7 +23,7 @@ threads-apart = inl (omega arith)
 sites-apart : Apart 2 1 3 (10 * 16)
 sites-apart = inl (omega arith)
 
--- ---- what an edit leaves as it was
+-- ---- what an edit leaves as it was: the words that it does not write, and so the slots that they make up
 
 module _ (r : List ℕ) (l : length r ≡ 1139) where
   module _ (t : ℕ) (h : t < 16) (y : List ℕ) (e : length y ≡ 61) where
@@ -36,11 +36,7 @@ module _ (r : List ℕ) (l : length r ≡ 1139) where
     pub put-thread-site : (i : ℕ) → i < 16 → site (putThread r t y) i ≡ site r i
     put-thread-site = slots-frame 3 10 16 r (putThread r t y) (omega arith) (put-thread-length ∙ sym l) (λ j a b. put-thread-word j (omega arith))
 
-    pub put-thread-other : (u : ℕ) → u < 16 → u ≢ t → thread (putThread r t y) u ≡ thread r u
-    put-thread-other u q n = slot-put-other 163 61 16 r (omega arith) t h y e u q n
-
-  -- the stamp
-
+  -- word 0 lies outside both arrays
   pub push-thread-stamp : threads r < 16 → (y : List ℕ) → length y ≡ 61 → stamp (pushThread r y) ≡ stamp r
   push-thread-stamp h y e = push-outside 163 61 16 1 threads-apart r (omega arith) (omega arith) h y e 0 (omega arith) (inl (omega arith))
 
@@ -87,7 +83,7 @@ module _ (m : Model) (last : ℕ → ℕ) (x : Box) (r : List ℕ) (k : RecordFi
   site-count : 2 < length r
   site-count = omega (arith, k .size)
 
-  -- an edit of the threads alone, and of the sites alone
+  -- an edit of the threads alone, and of the sites alone: the other array's words are as they were
   edit-threads : (s : List ℕ) → length s ≡ length r → Outside 163 61 16 1 r s → Array 61 16 (threadHeld m last x) (threads s) (thread s)
       → RecordFits m last x s
   edit-threads s e o a =

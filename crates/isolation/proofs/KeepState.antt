@@ -107,7 +107,7 @@ module _ (m : Model) (valid : Valid m) (st : List ℕ) (k : StateFits m st) wher
       (put-fits m valid first k1 c hc (a .ends .output)
       (rw (same, i .outputLeaves) (send-kept m valid c hc (lastStamps first) (recordOf st c) fits u (a .live2) (i .opIs2))))
 
--- P2: every made move keeps the state rules
+-- P2: every made move keeps the state rules, of the records that it writes by its kind, of the others since no stamp goes down
 pub act-fits : (m : Model) → Valid m → (st : List ℕ) → StateFits m st → (v : Move) (w : List ℕ) → act m st v ≡ made w → StateFits m w
 act-fits m valid st k v w e =
     act-made m st (StateFits m) v w e (λ i a. inside-fits m valid st k i (v .box) (v .thread) (v .thread2) w a)

@@ -168,7 +168,7 @@ module _ (m : Model) where
   start-lacking b h l =
       slot-flat 1139 recordAt recordAt-length 8 b h ∙ choose-past b (boxCount m) (startRecord (boxAt m b)) (zeros 1139) l
 
--- P1: a started state obeys the state rules
+-- P1: a started state obeys the state rules: every held name in it is free, and no name is bound above line 0
 pub start-fits : (m : Model) → Valid m → StateFits m (startState m)
 start-fits m valid = record {
   size = start-state-length m;
