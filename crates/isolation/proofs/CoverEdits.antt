@@ -1,12 +1,12 @@
 -- The edits of a record keep it covered: what a slot holds is covered where what was put there is. Assumes nothing.
-use mathlib.Core.Path.{_≡_, refl, ap, subst, sym, _∙_}
-use mathlib.Core.Logic.{_⊎_, inl, inr, _≢_}
+use mathlib.Core.Path.{_≡_, _∙_}
+use mathlib.Core.Logic.{inl, inr, _≢_}
 use mathlib.Core.List.{List, _∷_}
-use Prim.Native.Nat.{ℕ, suc, _+_, _-_, _*_, _≤_, _<_}
+use Prim.Native.Nat.{ℕ, _+_, _-_, _*_, _≤_, _<_}
 use native.Mathlib.Omega.{arith}
 use native.Mathlib.Decide.{ℕ-discrete, decLt}
 use lib.Dec.{T}
-use lib.ListN.{length, set, length-set}
+use lib.ListN.{length, length-set}
 use lib.Seq.{getD-set-same, getD-set-other}
 use Rattle.definitions.specs.Sets.{has}
 use Rattle.definitions.specs.Slots.{word, slot, putSlot, pushSlot, takeSlot}
@@ -16,7 +16,8 @@ use Rattle.definitions.specs.Start.{typeWords}
 use Rattle.definitions.proofs.Slots.{Apart, length-putSlot, slot-put-same, slot-put-other, word-putSlot}
 use Rattle.definitions.proofs.Arrays.{Outside, slots-frame, push-length, push-outside, push-count, push-same, push-other, take-length, take-outside, take-count, take-below, take-above}
 use Rattle.isolation.proofs.Covers.{CoversThread, CoversSite, CoversRecord, covers-thread, covers-site, covers-record}
-use Rattle.isolation.proofs.CoverTypes.{length-typeWords, type-each}
+use Rattle.isolation.proofs.TypeWords.{length-typeWords, type-each}
+use Rattle.isolation.proofs.KeepSite.{typeWord-is}
 
 -- ---- the live slots of an array: each has a property
 
@@ -81,11 +82,8 @@ pub site-covered : (e : Estimate) (b v f : ℕ) (hold : ℕ → ℕ) (type : ℕ
 site-covered e b v f hold type p q k = record {
   shown = p;
   hidden = q;
-  types = λ j h. rw (at j) (type-each hold type (λ w. T (has (e .eps b (heldNumber v)) (heldNumber w))) k j h);
+  types = λ j h. rw (typeWord-is v f (typeWords hold type) j) (type-each hold type (λ w. T (has (e .eps b (heldNumber v)) (heldNumber w))) k j h);
 }
-  where
-    at : (j : ℕ) → word (v ∷ f ∷ typeWords hold type) (2 + j) ≡ word (typeWords hold type) j
-    at j = ap (λ (i : ℕ). word (v ∷ f ∷ typeWords hold type) i) (let z : 2 + j ≡ suc (suc j) = omega arith in z)
 
 -- ---- a record: its length, its counts within their limits, and all covered
 
@@ -102,7 +100,7 @@ tc = inl (omega arith)
 sc : Apart 2 1 3 (10 * 16)
 sc = inl (omega arith)
 
-module _ (e : Estimate) (b : ℕ) (r : List ℕ) (k : Covered e b r) where
+module _ {e : Estimate} {b : ℕ} {r : List ℕ} (k : Covered e b r) where
   ts : 163 + 61 * 16 ≤ length r
   ts = omega (arith, k .size)
 
@@ -124,7 +122,7 @@ module _ (e : Estimate) (b : ℕ) (r : List ℕ) (k : Covered e b r) where
         size = z ∙ k .size;
         mostThreads = h;
         mostSites = omega (arith, k .mostSites);
-        covers = covers-record e b s f (λ i l. rw (v i (omega (arith, k .mostSites))) (covers-site e b r (k .covers) i (omega arith)));
+        covers = covers-record f (λ i l. rw (v i (omega (arith, k .mostSites))) (covers-site (k .covers) i (omega arith)));
       }
 
   edit-sites : (s : List ℕ) → length s ≡ length r → Outside 3 10 16 2 r s → sites s ≤ 16 → ((i : ℕ) → i < sites s → CoversSite e b (site s i)) → Covered e b s
@@ -135,7 +133,7 @@ module _ (e : Estimate) (b : ℕ) (r : List ℕ) (k : Covered e b r) where
         size = z ∙ k .size;
         mostThreads = omega (arith, k .mostThreads);
         mostSites = h;
-        covers = covers-record e b s (λ t l. rw (v t (omega (arith, k .mostThreads))) (covers-thread e b r (k .covers) t (omega arith))) g;
+        covers = covers-record (λ t l. rw (v t (omega (arith, k .mostThreads))) (covers-thread (k .covers) t (omega arith))) g;
       }
 
   pub set-stamp : (v : ℕ) → Covered e b (setStamp r v)
@@ -150,8 +148,8 @@ module _ (e : Estimate) (b : ℕ) (r : List ℕ) (k : Covered e b r) where
         mostThreads = omega (arith, k .mostThreads);
         mostSites = omega (arith, k .mostSites);
         covers =
-            covers-record e b (setStamp r v) (λ t l. rw (f t (omega (arith, k .mostThreads))) (covers-thread e b r (k .covers) t (omega arith)))
-            (λ i l. rw (g i (omega (arith, k .mostSites))) (covers-site e b r (k .covers) i (omega arith)));
+            covers-record (λ t l. rw (f t (omega (arith, k .mostThreads))) (covers-thread (k .covers) t (omega arith)))
+            (λ i l. rw (g i (omega (arith, k .mostSites))) (covers-site (k .covers) i (omega arith)));
       }
 
   module _ (t : ℕ) (h : t < threads r) where
@@ -168,25 +166,25 @@ module _ (e : Estimate) (b : ℕ) (r : List ℕ) (k : Covered e b r) where
       pub put-thread : CoversThread e x → Covered e b (putThread r t x)
       put-thread p =
           edit-threads (putThread r t x) (length-putSlot 163 61 16 r ts t low x z) (λ j _ a. word-putSlot 163 61 16 r ts t low x z j a) (omega (arith, put-threads, k .mostThreads))
-          (put-live 163 61 16 1 tc r ts ti (CoversThread e) (k .mostThreads) (covers-thread e b r (k .covers)) t h x z p)
+          (put-live 163 61 16 1 tc r ts ti (CoversThread e) (k .mostThreads) (covers-thread (k .covers)) t h x z p)
 
     pub take-thread : Covered e b (takeThread r t)
     take-thread =
         edit-threads (takeThread r t) (take-length 163 61 16 1 tc r ts ti t low) (take-outside 163 61 16 1 tc r ts ti t low) (omega (arith, take-count 163 61 16 1 tc r ts ti t low, k .mostThreads))
-        (take-live 163 61 16 1 tc r ts ti (CoversThread e) (k .mostThreads) (covers-thread e b r (k .covers)) t h)
+        (take-live 163 61 16 1 tc r ts ti (CoversThread e) (k .mostThreads) (covers-thread (k .covers)) t h)
 
   pub push-thread : threads r < 16 → (x : List ℕ) → length x ≡ 61 → CoversThread e x → Covered e b (pushThread r x)
   push-thread h x z p =
       edit-threads (pushThread r x) (push-length 163 61 16 1 tc r ts ti h x z) (push-outside 163 61 16 1 tc r ts ti h x z) (omega (arith, push-count 163 61 16 1 tc r ts ti h x z))
-      (push-live 163 61 16 1 tc r ts ti (CoversThread e) (k .mostThreads) (covers-thread e b r (k .covers)) h x z p)
+      (push-live 163 61 16 1 tc r ts ti (CoversThread e) (k .mostThreads) (covers-thread (k .covers)) h x z p)
 
   pub put-site : (i : ℕ) → i < sites r → (x : List ℕ) → length x ≡ 10 → CoversSite e b x → Covered e b (putSite r i x)
   put-site i h x z p =
       let low : i < 16 = omega (arith, k .mostSites) in
       edit-sites (putSite r i x) (length-putSlot 3 10 16 r ss i low x z) (λ j _ a. word-putSlot 3 10 16 r ss i low x z j a) (omega (arith, word-putSlot 3 10 16 r ss i low x z 2 sc, k .mostSites))
-      (put-live 3 10 16 2 sc r ss si (CoversSite e b) (k .mostSites) (covers-site e b r (k .covers)) i h x z p)
+      (put-live 3 10 16 2 sc r ss si (CoversSite e b) (k .mostSites) (covers-site (k .covers)) i h x z p)
 
   pub push-site : sites r < 16 → (x : List ℕ) → length x ≡ 10 → CoversSite e b x → Covered e b (pushSite r x)
   push-site h x z p =
       edit-sites (pushSite r x) (push-length 3 10 16 2 sc r ss si h x z) (push-outside 3 10 16 2 sc r ss si h x z) (omega (arith, push-count 3 10 16 2 sc r ss si h x z))
-      (push-live 3 10 16 2 sc r ss si (CoversSite e b) (k .mostSites) (covers-site e b r (k .covers)) h x z p)
+      (push-live 3 10 16 2 sc r ss si (CoversSite e b) (k .mostSites) (covers-site (k .covers)) h x z p)

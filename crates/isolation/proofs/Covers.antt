@@ -64,7 +64,7 @@ pub record Covers (m : Model) (e : Estimate) (st : List ℕ) : Type 0 where
   pub records : (b : ℕ) → b < boxCount m → CoversRecord e b (recordOf st b)
 
 -- thread by thread and site by site
-module _ (e : Estimate) (b : ℕ) (r : List ℕ) where
+module _ {e : Estimate} {b : ℕ} {r : List ℕ} where
   pub covers-thread : CoversRecord e b r → (t : ℕ) → t < threads r → CoversThread e (thread r t)
   covers-thread k t h = record { bindings = k .bindings t h }
 

@@ -9,7 +9,6 @@ pub mod KeepMoves
 pub mod KeepState
 pub mod StartFits
 pub mod Accepted
-pub mod CoverTypes
 pub mod CoverEdits
 pub mod CoverMoves
 pub mod Covered
@@ -18,4 +17,3 @@ pub mod Shut
 pub mod Follow
 pub mod Rule3
 pub mod Reached
-pub mod Example

@@ -61,7 +61,7 @@ act-inter m st v k w e = sym (ap (λ (x : Kind). by x) k) ∙ e
   where
     by : Kind → Outcome (List ℕ)
     by x = elim x [
-      inside i ↦ insideAct m st i (v .box) (v .thread) (v .thread2)
+      | inside i ↦ insideAct m st i (v .box) (v .thread) (v .thread2)
       | inter ↦ interAct m st (v .box) (v .thread) (v .box2) (v .thread2)
       | unknown ↦ refused 12
     ]
@@ -127,8 +127,8 @@ module _ (model words : List ℕ) (started : start model words .answer ≡ none)
       let w = step-made model (steps model (start model words .words) vs .words) v answer in
       let z = act-inter (modelOf model) (steps model (start model words .words) vs .words) v k (w .0) (w .1) in
       let i = inter-act (modelOf model) (steps model (start model words .words) vs .words) (v .box) (v .thread) (v .box2) (v .thread2) (w .0) z in
-      inter-refused (modelOf model) (image-valid model estimate h y) (estimateOf estimate) (one h) (image-shut model estimate h y)
-      (steps model (start model words .words) vs .words) reached-fits (subject-reduction estimate (y .accepts .verdict))
+      inter-refused (modelOf model) (estimateOf estimate) (one h) (image-shut model estimate h y)
+      (steps model (start model words .words) vs .words) (subject-reduction estimate (y .accepts .verdict))
       (v .box) (v .thread) (v .box2) (v .thread2) (w .0) (one-side h (v .box) (v .box2) (i .differ) (names-inter v h k named)) z
 
 -- ---- each answer belongs to its own step

@@ -35,7 +35,7 @@ use Rattle.isolation.proofs.Covers.{Accepted, Covers}
 use Rattle.isolation.proofs.Accepted.{accepted-of}
 use Rattle.isolation.proofs.CoverStart.{start-covered}
 use Rattle.isolation.proofs.Covered.{act-covered}
-use Rattle.isolation.proofs.Shut.{GroupShut, shut-group, inter-refused}
+use Rattle.isolation.proofs.Shut.{GroupShut, shut-group, inter-same-side}
 use Rattle.isolation.specs.Rule3.{Setting, Same, Rule3, Rule3Run}
 use Rattle.isolation.proofs.Follow.{namesGroup, struckBy, leftBy, SameOutside, EqualOutside, Reached, AlikeRuns, outcome-good, struck-alike}
 
@@ -215,15 +215,9 @@ module _ (m : Model) (valid : Valid m) (e : Estimate) (meets : Accepted m e) whe
     size = λ st g. g .fits .size;
     insideSize = λ st g. inside-size m valid st (g .fits);
     interSize = λ st g. inter-size m valid st (g .fits);
-    apart = λ st g b t c u w z. same-side (group b) (group c) (λ d. inter-refused m valid e group shut st (g .fits) (g .covered) b t c u w d z);
+    apart = λ st g. inter-same-side m e group shut st (g .covered);
     next = good-next;
   }
-    where
-      same-side : (x y : Bool) → (x ≡ not y → ⊥) → x ≡ y
-      same-side true true f = refl
-      same-side true false f = absurd (f refl)
-      same-side false true f = absurd (f refl)
-      same-side false false f = refl
 
 -- two models that are equal but for one box start with the same records in the others
 start-same : (h : ℕ) (m₁ m₂ : Model) → Valid m₁ → EqualBut h m₁ m₂ → SameOutside (one h) (startState m₁) (startState m₂)
@@ -280,8 +274,12 @@ module _ (model₁ model₂ estimate₁ estimate₂ : List ℕ) (h : ℕ) (words
 
   steps-same : Same h moves₁ moves₂ (steps model₁ (start model₁ words₁ .words) moves₁) (steps model₂ (start model₂ words₂ .words) moves₂)
   steps-same =
-      rw (start-words model₁ words₁ (s .started₁), start-words model₂ words₂ (s .started₂), steps-are-moves model₁ (yes₁ .accepts .model-read) _ (image-start model₁ estimate₁ h yes₁ .fits) moves₁,
-      steps-are-moves model₂ (yes₂ .accepts .model-read) _ (image-start model₂ estimate₂ h yes₂ .fits) moves₂)
+      rw (
+        start-words model₁ words₁ (s .started₁),
+        start-words model₂ words₂ (s .started₂),
+        steps-are-moves model₁ (yes₁ .accepts .model-read) _ (image-start model₁ estimate₁ h yes₁ .fits) moves₁,
+        steps-are-moves model₂ (yes₂ .accepts .model-read) _ (image-start model₂ estimate₂ h yes₂ .fits) moves₂,
+      )
       makes-same
 
   runs-same : (answers₁ answers₂ : List ℕ)

@@ -1,11 +1,11 @@
 -- A group of boxes is shut off: in a covered state no inter move between a box inside and one outside is made. Assumes nothing.
-use mathlib.Core.Path.{_≡_, refl, sym, _∙_}
-use mathlib.Core.Logic.{_≢_, ⊎-elim}
+use mathlib.Core.Path.{_≡_, refl, ap, sym, _∙_}
+use mathlib.Core.Logic.{_≢_}
 use mathlib.Core.Bool.{Bool, true, false, not}
 use mathlib.Core.List.{List}
 use Prim.Native.Nat.{ℕ, _<_}
 use lib.Dec.{T, T-not}
-use Rattle.definitions.specs.Bounded.{_is_, _isnt_, _implies_, allBelow}
+use Rattle.definitions.specs.Bounded.{_is_}
 use Rattle.definitions.specs.Sets.{has, forSome, meets}
 use Rattle.definitions.specs.Model.{Model, boxAt, boxCount}
 use Rattle.definitions.specs.Estimate.{Estimate}
@@ -14,9 +14,7 @@ use Rattle.definitions.specs.Record.{recordOf, heldNumber}
 use Rattle.definitions.specs.Moves.{made, value1, interAct}
 use Rattle.definitions.proofs.Bounded.{tests, is-iff, of-true, not-false}
 use Rattle.definitions.proofs.Sets.{forSome-iff, meets-comm}
-use Rattle.definitions.proofs.Valid.{Valid}
-use Rattle.isolation.proofs.Rules.{StateFits}
-use Rattle.isolation.proofs.Made.{InterActMade, inter-act, inter-made}
+use Rattle.isolation.proofs.Made.{inter-act, inter-made}
 use Rattle.isolation.proofs.Covers.{Covers}
 use Rattle.isolation.proofs.CoverMoves.{number-low, Linked, inter-linked}
 
@@ -49,11 +47,22 @@ linked-shut e boxes inside g b c v w hb hc d k = pick (inside b) refl (inside c)
     pick true p true q d = not-false d tt
     pick false p false q d = not-false (sym d) tt
 
-pub inter-refused : (m : Model) → Valid m → (e : Estimate) → (inside : ℕ → Bool) → GroupShut e (boxCount m) inside → (st : List ℕ) → StateFits m st → Covers m e st
+pub inter-refused : (m : Model) (e : Estimate) (inside : ℕ → Bool) → GroupShut e (boxCount m) inside → (st : List ℕ) → Covers m e st
     → (b t c u : ℕ) (w : List ℕ) → inside b ≡ not (inside c) → interAct m st b t c u ≡ made w → ⊥
-inter-refused m good e inside g st fit cov b t c u w d z =
+inter-refused m e inside g st cov b t c u w d z =
     let i = inter-act m st b t c u w z in
     let k =
     inter-linked (m .kinds) (boxAt m b) (boxAt m c) e b c (recordOf st b) (recordOf st c) (cov .records b (i .box)) (cov .records c (i .box2)) t u (i .ends)
     (inter-made (m .kinds) (boxAt m b) (recordOf st b) (boxAt m c) (recordOf st c) t u (i .ends) (i .makes)) in
     linked-shut e (boxCount m) inside g b c (value1 (m .kinds) (boxAt m b) (recordOf st b) t) (value1 (m .kinds) (boxAt m c) (recordOf st c) u) (i .box) (i .box2) d k
+
+-- the same, as it is used: a made inter move has both its ends inside, or both outside
+pub inter-same-side : (m : Model) (e : Estimate) (inside : ℕ → Bool) → GroupShut e (boxCount m) inside → (st : List ℕ) → Covers m e st
+    → (b t c u : ℕ) (w : List ℕ) → interAct m st b t c u ≡ made w → inside b ≡ inside c
+inter-same-side m e inside g st cov b t c u w z = pick (inside b) refl (inside c) refl
+  where
+    pick : (x : Bool) → inside b ≡ x → (y : Bool) → inside c ≡ y → inside b ≡ inside c
+    pick true p true q = p ∙ sym q
+    pick false p false q = p ∙ sym q
+    pick true p false q = absurd (inter-refused m e inside g st cov b t c u w (p ∙ sym (ap not q)) z)
+    pick false p true q = absurd (inter-refused m e inside g st cov b t c u w (p ∙ sym (ap not q)) z)

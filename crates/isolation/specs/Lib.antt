@@ -1,2 +1,1 @@
 pub mod Rule3
-pub mod Example

@@ -76,7 +76,7 @@ impl<'a> Block<'a> {
 
     /// Whether the words from `index` on are zero.
     pub fn zero_from(self, index: usize) -> bool {
-        self.0[8 + 8 * index..504].iter().all(|byte| *byte == 0)
+        self.0[8 + 8 * index..504].iter().fold(0, |bits, byte| bits | byte) == 0
     }
 
     fn sealed(self) -> bool {

@@ -53,27 +53,36 @@ impl fmt::Display for ShutOff {
     }
 }
 
-/// Reads both images and checks the clauses.
-fn accepted(model: &[u8], estimate: &[u8]) -> Result<(Model, Estimate), Verdict> {
+/// Reads both images, checks the clauses, and asks something of an accepted
+/// pair.
+fn of_accepted<T>(
+    model: &[u8],
+    estimate: &[u8],
+    ask: impl FnOnce(&Model, &Estimate) -> T,
+) -> Result<T, Verdict> {
     let model = Model::read(model).map_err(Verdict::RefusedModel)?;
     let estimate = Estimate::read(&model, estimate).map_err(Verdict::RefusedEstimate)?;
     clauses::check(&model, &estimate).map_err(Verdict::Broken)?;
-    Ok((model, estimate))
+    Ok(ask(&model, &estimate))
 }
 
 /// The checker.
 pub fn check(model: &[u8], estimate: &[u8]) -> Verdict {
-    accepted(model, estimate).map_or_else(|verdict| verdict, |_| Verdict::Accepted)
+    of_accepted(model, estimate, |_, _| Verdict::Accepted).unwrap_or_else(|verdict| verdict)
 }
 
 /// The question whether a box is shut off.
 pub fn shut_off(model: &[u8], estimate: &[u8], box_no: usize) -> ShutOff {
-    match accepted(model, estimate) {
-        Err(verdict) => ShutOff::Not(verdict),
-        Ok((model, _)) if box_no >= model.boxes().len() => ShutOff::NoBox,
-        Ok((model, estimate)) if clauses::shut_off(&model, &estimate, box_no) => ShutOff::Yes,
-        Ok(_) => ShutOff::No,
-    }
+    let asked = of_accepted(model, estimate, |model, estimate| {
+        if box_no >= model.boxes().len() {
+            ShutOff::NoBox
+        } else if clauses::shut_off(model, estimate, box_no) {
+            ShutOff::Yes
+        } else {
+            ShutOff::No
+        }
+    });
+    asked.unwrap_or_else(ShutOff::Not)
 }
 
 /// The refused block as a part of its image: 512 bytes for refusals 2 to 5,

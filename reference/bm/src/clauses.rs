@@ -3,7 +3,7 @@
 use std::fmt;
 
 use crate::estimate::{BoxSets, Estimate};
-use crate::model::{Line, Model, Site};
+use crate::model::{Line, MAX_BOXES, Model, Site};
 use crate::names::{NameNo, NameSet};
 
 /// The first clause that an estimate breaks.
@@ -38,7 +38,7 @@ pub fn check(model: &Model, estimate: &Estimate) -> Result<(), Broken> {
     for name in model.free() {
         member(1, name, estimate.rho(name)).map_err(|short| short.at(0, name.index()))?;
     }
-    let checker = Checker { model, estimate };
+    let checker = Checker { model, estimate, sent: estimate.boxes.each_ref().map(sent) };
     for (box_no, def) in model.boxes().iter().enumerate() {
         for (at, site) in def.sites().iter().enumerate() {
             checker.site(box_no, site).map_err(|short| short.at(box_no, at))?;
@@ -92,9 +92,16 @@ fn within(clause: u8, first: NameSet, second: NameSet) -> Result<(), Short> {
     }
 }
 
+/// All that a box may send on its shown names.
+fn sent(sets: &BoxSets) -> NameSet {
+    let each = sets.shown.into_iter().map(|name| sets.kap(name));
+    each.fold(NameSet::EMPTY, NameSet::union)
+}
+
 struct Checker<'a> {
     model: &'a Model,
     estimate: &'a Estimate,
+    sent: [NameSet; MAX_BOXES],
 }
 
 impl Checker<'_> {
@@ -129,22 +136,23 @@ impl Checker<'_> {
         }
     }
 
-    /// Clause 6: what other boxes may send on sites that fit is received.
+    /// Clause 6: what other boxes may send on sites that fit is received. A
+    /// box of which all that it may send is received need not be gone through.
     fn received(&self, box_no: usize, channels: NameSet, into: NameSet) -> Result<(), Short> {
         let sets = &self.estimate.boxes[box_no];
         for a in channels.meet(sets.shown) {
-            for (other, far) in self.others(box_no) {
-                debug_assert_ne!(other, box_no);
-                let fit = far.shown.into_iter().filter(|c| far.eps(*c).shares(sets.eps(a)));
-                fit.into_iter().try_for_each(|c| within(6, far.kap(c), into))?;
+            for far in self.others_sending_more(box_no, into) {
+                let mut fit = far.shown.into_iter().filter(|c| far.eps(*c).shares(sets.eps(a)));
+                fit.try_for_each(|c| within(6, far.kap(c), into))?;
             }
         }
         Ok(())
     }
 
-    /// The other boxes, ascending.
-    fn others(&self, box_no: usize) -> impl Iterator<Item = (usize, &BoxSets)> {
+    /// The other boxes, ascending, that may send a name not in the set.
+    fn others_sending_more(&self, box_no: usize, set: NameSet) -> impl Iterator<Item = &BoxSets> {
         let boxes = self.estimate.boxes[..self.model.boxes().len()].iter().enumerate();
-        boxes.filter(move |(other, _)| *other != box_no)
+        let others = boxes.filter(move |(other, _)| *other != box_no);
+        others.filter(move |(other, _)| !self.sent[*other].within(set)).map(|(_, far)| far)
     }
 }
