@@ -3,7 +3,13 @@ pub mod Sets
 pub mod Starred
 pub mod Slots
 pub mod Arrays
+pub mod Faults
+pub mod Tree
 pub mod Valid
+pub mod Image
+pub mod ReadModel
+pub mod Clauses
+pub mod ShutOff
 pub mod Words
 pub mod Check
 pub mod Images

@@ -264,7 +264,7 @@ pub record IsLowest (s : ℕ) (p : ℕ → Bool) (n : ℕ) : Type 0 where
   pub passes : T (p n)
   pub least : (i : ℕ) → i < n → T (has s i) → T (p i) → ⊥
 
-fault-some : (b : Bool) (m n : ℕ) → faultIf b m ≡ some n → T b × (m ≡ n)
+pub fault-some : (b : Bool) (m n : ℕ) → faultIf b m ≡ some n → T b × (m ≡ n)
 fault-some true m n e = (tt, cc)
 fault-some false m n e = let z : _≡_ {A = ℕ} 0 1 = cc in absurd (omega arith)
 

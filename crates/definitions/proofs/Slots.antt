@@ -8,6 +8,7 @@ use native.Mathlib.Omega.{arith}
 use native.Mathlib.Decide.{ℕ-discrete, decLt}
 use lib.ListN.{length, getD, take, drop, set, replicate, length-append, length-take, length-drop, length-set, length-replicate, getD-replicate, List·getD-append, List·getD-eq-default}
 use lib.Seq.{getD-take, getD-drop, getD-append-add, ext-getD, length-take-le, getD-set-same, getD-set-other}
+use Rattle.definitions.specs.Bounded.{flat}
 use Rattle.definitions.specs.Slots.{word, zeros, part, put, slot, putSlot, dropSlot, pushSlot, takeSlot}
 
 pub length-zeros : (n : ℕ) → length (zeros n) ≡ n
@@ -225,3 +226,45 @@ module _ (base w cap : ℕ) (r : List ℕ) (fits : base + w * cap ≤ length r) 
         word-put-at r (base + w * i) rest room (base + w * u + j) (omega arith) (omega (arith, length-rest))
         ∙ word-right (drop (w * (i + 1)) region) (zeros w) (base + w * u + j - (base + w * i)) (w * u - w * i) (simp length-drop (omega (arith, length-region))) (omega arith)
         ∙ word-zeros w _ ∙ sym (word-zeros w j))
+
+-- ---- so many lists of w words, one behind the other
+
+module _ (w : ℕ) (f : ℕ → List ℕ) (each : (i : ℕ) → length (f i) ≡ w) where
+  pub length-flat : (n : ℕ) → length (flat n f) ≡ w * n
+  unfolding flat
+  length-flat zero = omega arith
+  length-flat (suc n) = length-append (flat n f) (f n) ∙ omega (arith, length-flat n, each n)
+
+  pub word-flat : (n i j : ℕ) → i < n → j < w → word (flat n f) (w * i + j) ≡ word (f i) j
+  unfolding flat
+  word-flat zero i j h l = absurd (omega arith)
+  word-flat (suc n) i j h l = pick (ℕ-discrete n i) (word-flat n i j)
+    where
+      pick : Dec (n ≡ i) → (i < n → j < w → word (flat n f) (w * i + j) ≡ word (f i) j) → word (flat n f ++ f n) (w * i + j) ≡ word (f i) j
+      pick (yes e) rest =
+          let q : w * n ≡ w * i = ap (λ (k : ℕ). w * k) e in
+          word-right (flat n f) (f n) (w * i + j) (w * n) (length-flat n) (omega arith)
+          ∙ ap (word (f n)) (let z : w * i + j - w * n ≡ j = omega arith in z) ∙ ap (λ (k : ℕ). word (f k) j) e
+      pick (no e) rest =
+          let less : i < n = omega arith in
+          word-left (flat n f) (f n) (w * i + j) (omega (arith, length-flat n, mul-le-mul-left w less)) ∙ rest less l
+
+  -- slot i is list i, also where other words stand before and behind them
+  pub slot-flat : (n i : ℕ) → i < n → slot 0 w (flat n f) i ≡ f i
+  unfolding slot
+  slot-flat n i h =
+      part-is (flat n f) (0 + w * i) w (f i) (omega (arith, length-flat n, mul-le-mul-left w h)) (each i)
+      (λ j l. ap (word (flat n f)) (let z : 0 + w * i + j ≡ w * i + j = omega arith in z) ∙ word-flat n i j h l)
+
+  pub slot-between : (base n : ℕ) (a b : List ℕ) → length a ≡ base → (i : ℕ) → i < n → slot base w (a ++ flat n f ++ b) i ≡ f i
+  unfolding slot
+  slot-between base n a b e i h =
+      let more = mul-le-mul-left w h in
+      let size = length-append a (flat n f) in
+      let flat-size = length-flat n in
+      part-is (a ++ flat n f ++ b) (base + w * i) w (f i) (omega (arith, length-append (a ++ flat n f) b)) (each i)
+      (λ j l.
+      word-left (a ++ flat n f) b (base + w * i + j) (omega arith)
+      ∙ word-right a (flat n f) (base + w * i + j) base e (omega arith)
+      ∙ ap (word (flat n f)) (let z : base + w * i + j - base ≡ w * i + j = omega arith in z)
+      ∙ word-flat n i j h l)

@@ -16,7 +16,7 @@ use Rattle.definitions.specs.Record.{threads, stateLength, recordOf, putRecord}
 use Rattle.definitions.specs.Moves.{Inside, Kind, inside, inter, unknown, kindOfMove, Move, Outcome, refused, made, Ends, need, onMade, insideMove, interMove, insideAct, interAct, act}
 use Rattle.definitions.specs.Calls.{outcomeNumber, outcomeWords, Ran, makes}
 use Rattle.definitions.proofs.Bounded.{tests, same-test}
-use Rattle.definitions.proofs.Slots.{slot-put-same, slot-put-other, length-putSlot}
+use Rattle.isolation.proofs.KeepState.{put-record-same, put-record-other, put-record-length}
 use Rattle.isolation.proofs.Made.{refused-made, inside-act, inter-act, act-made, InsideMade, InterActMade}
 
 -- the move names a box of the group; the moves left; the answers to them
@@ -57,26 +57,14 @@ pub record Reached (group : ℕ → Bool) (m : Model) (Good : List ℕ → Type 
   pub apart : (st : List ℕ) → Good st → (b t c u : ℕ) (w : List ℕ) → interAct m st b t c u ≡ made w → group b ≡ group c
   pub next : (st : List ℕ) → Good st → (v : Move) (w : List ℕ) → act m st v ≡ made w → Good w
 
--- ---- one record put in
-
-module _ (st : List ℕ) (l : length st ≡ stateLength) (b : ℕ) (h : b < 8) (r : List ℕ) (e : length r ≡ 1139) where
-  pub put-same : recordOf (putRecord st b r) b ≡ r
-  put-same = slot-put-same 0 1139 8 st (omega (arith, l)) b h r e
-
-  pub put-other : (c : ℕ) → c < 8 → c ≢ b → recordOf (putRecord st b r) c ≡ recordOf st c
-  put-other c k n = slot-put-other 0 1139 8 st (omega (arith, l)) b h r e c k n
-
-  pub put-length : length (putRecord st b r) ≡ stateLength
-  put-length = length-putSlot 0 1139 8 st (omega (arith, l)) b h r e ∙ l
-
 -- the same record put into both states leaves them the same outside
 put-both : (group : ℕ → Bool) (st₁ st₂ : List ℕ) → length st₁ ≡ stateLength → length st₂ ≡ stateLength → SameOutside group st₁ st₂
     → (b : ℕ) → b < 8 → (r : List ℕ) → length r ≡ 1139 → SameOutside group (putRecord st₁ b r) (putRecord st₂ b r)
 put-both group st₁ st₂ l₁ l₂ same b h r e c k o = pick (ℕ-discrete b c)
   where
     pick : Dec (b ≡ c) → recordOf (putRecord st₁ b r) c ≡ recordOf (putRecord st₂ b r) c
-    pick (yes q) = subst (λ (d : ℕ). recordOf (putRecord st₁ b r) d ≡ recordOf (putRecord st₂ b r) d) q (put-same st₁ l₁ b h r e ∙ sym (put-same st₂ l₂ b h r e))
-    pick (no q) = put-other st₁ l₁ b h r e c k (omega arith) ∙ same c k o ∙ sym (put-other st₂ l₂ b h r e c k (omega arith))
+    pick (yes q) = subst (λ (d : ℕ). recordOf (putRecord st₁ b r) d ≡ recordOf (putRecord st₂ b r) d) q (put-record-same st₁ l₁ b h r e ∙ sym (put-record-same st₂ l₂ b h r e))
+    pick (no q) = put-record-other st₁ l₁ b h r e c k (omega arith) ∙ same c k o ∙ sym (put-record-other st₂ l₂ b h r e c k (omega arith))
 
 both : (x y : Bool) → x ≡ y → (x or y) ≡ true → x ≡ true
 unfolding _or_
@@ -90,7 +78,7 @@ true-false p q = subst T (sym p ∙ q) tt
 
 module _ (group : ℕ → Bool) (m : Model) (Good : List ℕ → Type 0) (reached : Reached group m Good) (st : List ℕ) (good : Good st) where
   put-inside : (b : ℕ) → b < 8 → group b ≡ true → (s : List ℕ) → length s ≡ stateLength → (r : List ℕ) → length r ≡ 1139 → SameOutside group (putRecord s b r) s
-  put-inside b h g s l r e c k o = put-other s l b h r e c k (λ q. true-false (ap group q ∙ g) o)
+  put-inside b h g s l r e c k o = put-record-other s l b h r e c k (λ q. true-false (ap group q ∙ g) o)
 
   made-inside : (v : Move) (w : List ℕ) → namesGroup group v ≡ true → act m st v ≡ made w → SameOutside group w st
   unfolding namesGroup act
@@ -114,7 +102,7 @@ module _ (group : ℕ → Bool) (m : Model) (Good : List ℕ → Type 0) (reache
           let s = reached .interSize st good (v .box) (v .thread) (v .box2) (v .thread2) (x .ends) (x .box) (x .box2) (x .live) (x .live2) (x .makes) in
           let l = reached .size st good in
           ap (λ (y : List ℕ). recordOf y c) (x .leaves)
-          ∙ put-inside (v .box2) d2 (sym q ∙ a) (putRecord st (v .box) (x .ends .input)) (put-length st l (v .box) d (x .ends .input) (s .0)) (x .ends .output) (s .1) c k o
+          ∙ put-inside (v .box2) d2 (sym q ∙ a) (putRecord st (v .box) (x .ends .input)) (put-record-length st l (v .box) d (x .ends .input) (s .0)) (x .ends .output) (s .1) c k o
           ∙ put-inside (v .box) d a st l (x .ends .input) (s .0) c k o
       go unknown g z c k o = absurd (refused-made z)
 
@@ -211,7 +199,7 @@ module _ (group : ℕ → Bool) (m₁ m₂ : Model) (equal : EqualOutside group 
       (λ e w.
       let k = reached .interSize st₁ good b t c u e i j (p .0 .1) (p .1) w in
       put-both group (putRecord st₁ b (e .input)) (putRecord st₂ b (e .input))
-      (put-length st₁ l₁ b (low b i) (e .input) (k .0)) (put-length st₂ l₂ b (low b i) (e .input) (k .0))
+      (put-record-length st₁ l₁ b (low b i) (e .input) (k .0)) (put-record-length st₂ l₂ b (low b i) (e .input) (k .0))
       (put-both group st₁ st₂ l₁ l₂ same b (low b i) (e .input) (k .0)) c (low c j) (e .output) (k .1))))
 
   -- P6, the second half

@@ -6,7 +6,7 @@ use mathlib.Core.List.{List, [], _∷_}
 use mathlib.Core.Option.{Option, none, some}
 use Prim.Native.Nat.{ℕ, _+_, _*_, _≤_, _<_}
 use native.Mathlib.Omega.{arith}
-use native.Mathlib.Decide.{ℕ-discrete}
+use native.Mathlib.Decide.{decLt}
 use lib.Dec.{T, T-not}
 use lib.ListN.{length}
 use Rattle.definitions.specs.Bounded.{_or_, _is_, _isnt_, _below_, faultIf, orElse}
@@ -20,63 +20,78 @@ use Rattle.definitions.specs.Clauses.{Broken, firstBroken, Verdict, accepted, b
 use Rattle.definitions.specs.ShutOff.{shutOff, Reply, notAccepted, nobody, isShutOff, reply, question}
 use Rattle.definitions.specs.Record.{stateLength, recordOf}
 use Rattle.definitions.specs.StateRules.{stateFits}
-use Rattle.definitions.specs.Start.{startState}
+use Rattle.definitions.specs.Start.{startRecord, startState}
 use Rattle.definitions.specs.Moves.{Kind, inside, inter, unknown, kindOfMove, Move, Outcome, refused, made, namesBox, act}
 use Rattle.definitions.specs.Calls.{Stepped, written, startRefusal, start, outcomeNumber, outcomeWords, outcomeRefusal, stateRefusal, step, Ran, steps, makes, Run, runRefusal, run}
 use Rattle.definitions.specs.Apart.{struck, answersLeft, EqualBut}
 use Rattle.definitions.proofs.Bounded.{tests, left-none, right-none, fault-none, none-fault, true-of, of-true, false-of, is-iff, isnt-iff}
+use Rattle.definitions.proofs.Valid.{Valid}
+use Rattle.definitions.proofs.Image.{model-count}
+use Rattle.definitions.proofs.ReadModel.{valid-image}
+use Rattle.isolation.proofs.Rules.{StateFits, state-iff}
+use Rattle.isolation.proofs.KeepState.{act-fits, inside-size, inter-size}
+use Rattle.isolation.proofs.StartFits.{start-fits, start-record, start-lacking}
+use Rattle.isolation.proofs.Covers.{Accepted, Covers}
+use Rattle.isolation.proofs.Accepted.{accepted-of}
+use Rattle.isolation.proofs.CoverStart.{start-covered}
+use Rattle.isolation.proofs.Covered.{act-covered}
+use Rattle.isolation.proofs.Shut.{GroupShut, shut-group, inter-same-side}
 use Rattle.isolation.specs.Rule3.{Setting, Same, Rule3, Rule3Run}
 use Rattle.isolation.proofs.Follow.{namesGroup, struckBy, leftBy, SameOutside, EqualOutside, Reached, AlikeRuns, outcome-good, struck-alike}
 
--- ---- what a yes says
+-- ---- what an acceptance and a yes say
 
-pub record Yes (model estimate : List ℕ) (h : ℕ) : Type 0 where
+pub record CheckAccepted (model estimate : List ℕ) : Type 0 where
+  pub verdict : check model estimate ≡ accepted
   pub model-read : readModel model ≡ none
   pub estimate-read : readEstimate (nameCount model) (boxesOf model) estimate ≡ none
   pub clauses : firstBroken (modelOf model) (estimateOf estimate) ≡ none
+
+is-accepted : Verdict → Type 0
+is-accepted accepted = Unit
+is-accepted (breaks x) = ⊥
+is-accepted (refusedModel x) = ⊥
+is-accepted (refusedEstimate x) = ⊥
+
+pub check-accepted : (model estimate : List ℕ) → check model estimate ≡ accepted → CheckAccepted model estimate
+unfolding check is-accepted
+check-accepted model estimate e =
+    go (readModel model) refl (readEstimate (nameCount model) (boxesOf model) estimate) refl (firstBroken (modelOf model) (estimateOf estimate)) refl
+    (subst is-accepted (sym e) tt)
+  where
+    go : (a : Option Refusal) → readModel model ≡ a → (b : Option Refusal) → readEstimate (nameCount model) (boxesOf model) estimate ≡ b
+        → (c : Option Broken) → firstBroken (modelOf model) (estimateOf estimate) ≡ c
+        → is-accepted (afterModel a (afterEstimate b (verdictOf c))) → CheckAccepted model estimate
+    go none ea none eb none ec z = record { verdict = e; model-read = ea; estimate-read = eb; clauses = ec }
+    go none ea none eb (some x) ec z = absurd z
+    go none ea (some r) eb c ec z = absurd z
+    go (some r) ea b eb c ec z = absurd z
+
+pub record Yes (model estimate : List ℕ) (h : ℕ) : Type 0 where
+  pub accepts : CheckAccepted model estimate
   pub box : h < boxesOf model
   pub shut : T (shutOff (estimateOf estimate) (boxesOf model) h)
 
-not-yes : {v : Verdict} {b : Bool} → _≡_ {A = Reply} (notAccepted v) (isShutOff b) → ⊥
-not-yes e = subst (λ (r : Reply). code r) e tt
-  where
-    code : Reply → Type 0
-    code (notAccepted v) = Unit
-    code (nobody r) = Unit
-    code (isShutOff b) = ⊥
-
-nobody-yes : {r : Refusal} {b : Bool} → _≡_ {A = Reply} (nobody r) (isShutOff b) → ⊥
-nobody-yes e = subst (λ (r : Reply). code r) e tt
-  where
-    code : Reply → Type 0
-    code (notAccepted v) = Unit
-    code (nobody r) = Unit
-    code (isShutOff b) = ⊥
+is-answer : Reply → Type 0
+is-answer (notAccepted v) = ⊥
+is-answer (nobody r) = ⊥
+is-answer (isShutOff b) = T b
 
 pub question-yes : (model estimate : List ℕ) (h : ℕ) → question model estimate h ≡ isShutOff true → Yes model estimate h
-unfolding question check
+unfolding question is-answer
 question-yes model estimate h e =
-    go (readModel model) refl (readEstimate (nameCount model) (boxesOf model) estimate) refl (firstBroken (modelOf model) (estimateOf estimate)) refl
-    (h below boxesOf model) refl e
+    go (check model estimate) refl (h below boxesOf model) refl (subst is-answer (sym e) tt)
   where
     s : Bool
     s = shutOff (estimateOf estimate) (boxesOf model) h
 
-    go : (a : Option Refusal) → readModel model ≡ a → (b : Option Refusal) → readEstimate (nameCount model) (boxesOf model) estimate ≡ b
-        → (c : Option Broken) → firstBroken (modelOf model) (estimateOf estimate) ≡ c → (d : Bool) → (h below boxesOf model) ≡ d
-        → reply (afterModel a (afterEstimate b (verdictOf c))) (elim d [ true ↦ isShutOff s | false ↦ nobody (unplaced 12) ]) ≡ isShutOff true
-        → Yes model estimate h
-    go none ea none eb none ec true ed z = record {
-      model-read = ea;
-      estimate-read = eb;
-      clauses = ec;
-      box = simp tests at (of-true ed);
-      shut = of-true {b = shutOff (estimateOf estimate) (boxesOf model) h} cc;
-    }
-    go none ea none eb none ec false ed z = absurd (nobody-yes z)
-    go none ea none eb (some x) ec d ed z = absurd (not-yes z)
-    go none ea (some r) eb c ec d ed z = absurd (not-yes z)
-    go (some r) ea b eb c ec d ed z = absurd (not-yes z)
+    go : (v : Verdict) → check model estimate ≡ v → (d : Bool) → (h below boxesOf model) ≡ d
+        → is-answer (reply v (elim d [ true ↦ isShutOff s | false ↦ nobody (unplaced 12) ])) → Yes model estimate h
+    go accepted ev true ed z = record { accepts = check-accepted model estimate ev; box = simp tests at (of-true ed); shut = z }
+    go accepted ev false ed z = absurd z
+    go (breaks x) ev d ed z = absurd z
+    go (refusedModel x) ev d ed z = absurd z
+    go (refusedEstimate x) ev d ed z = absurd z
 
 -- ---- a list of steps is the moves made one after the other
 
@@ -114,7 +129,7 @@ module _ (image : List ℕ) (read : readModel image ≡ none) (Good : List ℕ �
 -- ---- the group of one box
 
 module _ (h : ℕ) where
-  one : ℕ → Bool
+  unfoldable pub one : ℕ → Bool
   one b = b is h
 
   names-one : (v : Move) → namesBox v h ≡ namesGroup one v
@@ -161,7 +176,11 @@ module _ (h : ℕ) where
             a .words c l o ∙ ap (λ (r : Ran). recordOf (r .words) c) q ∙ sym (b .words c l o);
       }
 
--- what a start that is not refused leaves
+-- what a start that is not refused says of the model, and leaves
+pub start-read : (image words : List ℕ) → start image words .answer ≡ none → readModel image ≡ none
+unfolding start startRefusal
+start-read image words e = left-none (readModel image) (faultIf (length words isnt stateLength) (unplaced 10)) e
+
 pub start-words : (image words : List ℕ) → start image words .answer ≡ none → start image words .words ≡ startState (modelOf image)
 unfolding start
 start-words image words e = ap (λ (r : Option Refusal). written r (startState (modelOf image)) words) e
@@ -173,3 +192,112 @@ unfolding run
 run-words image words vs answers e =
     let all = makes (modelOf image) words vs in
     (ap (λ (r : Option Refusal). written r (all .words) words) e, ap (λ (r : Option Refusal). written r (all .answers) answers) e)
+
+-- ---- the states that are reached from a start
+
+-- a state that obeys the state rules and that the estimate covers
+pub record Good (m : Model) (e : Estimate) (st : List ℕ) : Type 0 where
+  pub fits : StateFits m st
+  pub covered : Covers m e st
+
+module _ (m : Model) (valid : Valid m) (e : Estimate) (meets : Accepted m e) where
+  pub good-start : Good m e (startState m)
+  good-start = record { fits = start-fits m valid; covered = start-covered m valid e meets }
+
+  pub good-next : (st : List ℕ) → Good m e st → (v : Move) (w : List ℕ) → act m st v ≡ made w → Good m e w
+  good-next st g v w z =
+      record { fits = act-fits m valid st (g .fits) v w z; covered = act-covered m valid e meets st (g .fits) (g .covered) v w z }
+
+  -- where no box of the group is linked to a box outside it
+  pub good-reached : (group : ℕ → Bool) → GroupShut e (boxCount m) group → Reached group m (Good m e)
+  good-reached group shut = record {
+    most = valid .mostBoxes;
+    size = λ st g. g .fits .size;
+    insideSize = λ st g. inside-size m valid st (g .fits);
+    interSize = λ st g. inter-size m valid st (g .fits);
+    apart = λ st g. inter-same-side m e group shut st (g .covered);
+    next = good-next;
+  }
+
+-- two models that are equal but for one box start with the same records in the others
+start-same : (h : ℕ) (m₁ m₂ : Model) → Valid m₁ → EqualBut h m₁ m₂ → SameOutside (one h) (startState m₁) (startState m₂)
+start-same h m₁ m₂ valid k b l o = pick (decLt b (boxCount m₁))
+  where
+    pick : Dec (b < boxCount m₁) → recordOf (startState m₁) b ≡ recordOf (startState m₂) b
+    pick (yes i) =
+        start-record m₁ b l i ∙ ap startRecord (k .others b i (of-other h b o)) ∙ sym (start-record m₂ b l (omega (arith, k .count)))
+    pick (no i) = start-lacking m₁ b l (omega arith) ∙ sym (start-lacking m₂ b l (omega (arith, k .count)))
+
+-- in a model that is not refused, from a state that obeys the state rules, a list of step calls makes its moves one after the other:
+-- no step refuses the model, the length or the state
+pub steps-are-moves : (model : List ℕ) → readModel model ≡ none → (st : List ℕ) → StateFits (modelOf model) st → (vs : List Move)
+    → steps model st vs ≡ makes (modelOf model) st vs
+steps-are-moves model read st fits vs =
+    steps-makes model read (StateFits (modelOf model)) (λ w k. k .size) (λ w k. state-iff (modelOf model) w .1 k)
+    (act-fits (modelOf model) (valid-image model read)) vs st fits
+
+-- ---- an image whose estimate is accepted
+
+module _ (model estimate : List ℕ) (h : ℕ) (yes : Yes model estimate h) where
+  pub image-valid : Valid (modelOf model)
+  image-valid = valid-image model (yes .accepts .model-read)
+
+  pub image-accepted : Accepted (modelOf model) (estimateOf estimate)
+  image-accepted = accepted-of (modelOf model) (estimateOf estimate) (yes .accepts .clauses)
+
+  pub image-shut : GroupShut (estimateOf estimate) (boxCount (modelOf model)) (one h)
+  unfolding one
+  image-shut = rw (model-count model) (shut-group (estimateOf estimate) (boxesOf model) h (yes .shut))
+
+  pub image-reached : Reached (one h) (modelOf model) (Good (modelOf model) (estimateOf estimate))
+  image-reached = good-reached (modelOf model) image-valid (estimateOf estimate) image-accepted (one h) image-shut
+
+  pub image-start : Good (modelOf model) (estimateOf estimate) (startState (modelOf model))
+  image-start = good-start (modelOf model) image-valid (estimateOf estimate) image-accepted
+
+-- ---- rule 3
+
+module _ (model₁ model₂ estimate₁ estimate₂ : List ℕ) (h : ℕ) (words₁ words₂ : List ℕ) (moves₁ moves₂ : List Move)
+    (s : Setting model₁ model₂ estimate₁ estimate₂ h words₁ words₂ moves₁ moves₂) where
+  yes₁ : Yes model₁ estimate₁ h
+  yes₁ = question-yes model₁ estimate₁ h (s .shut₁)
+
+  yes₂ : Yes model₂ estimate₂ h
+  yes₂ = question-yes model₂ estimate₂ h (s .shut₂)
+
+  makes-same : Same h moves₁ moves₂ (makes (modelOf model₁) (startState (modelOf model₁)) moves₁) (makes (modelOf model₂) (startState (modelOf model₂)) moves₂)
+  makes-same =
+      lists-alike h (modelOf model₁) (modelOf model₂) _ _ (s .equalBut) (record { kinds = refl; count = refl; others = λ _ _ _. refl })
+      (image-reached model₁ estimate₁ h yes₁) (image-reached model₂ estimate₂ h yes₂) (startState (modelOf model₁)) (startState (modelOf model₂))
+      (image-start model₁ estimate₁ h yes₁) (image-start model₂ estimate₂ h yes₂)
+      (start-same h (modelOf model₁) (modelOf model₂) (image-valid model₁ estimate₁ h yes₁) (s .equalBut)) moves₁ moves₂ (s .moves)
+
+  steps-same : Same h moves₁ moves₂ (steps model₁ (start model₁ words₁ .words) moves₁) (steps model₂ (start model₂ words₂ .words) moves₂)
+  steps-same =
+      rw (
+        start-words model₁ words₁ (s .started₁),
+        start-words model₂ words₂ (s .started₂),
+        steps-are-moves model₁ (yes₁ .accepts .model-read) _ (image-start model₁ estimate₁ h yes₁ .fits) moves₁,
+        steps-are-moves model₂ (yes₂ .accepts .model-read) _ (image-start model₂ estimate₂ h yes₂ .fits) moves₂,
+      )
+      makes-same
+
+  runs-same : (answers₁ answers₂ : List ℕ)
+      → run model₁ (start model₁ words₁ .words) moves₁ answers₁ .answer ≡ none → run model₂ (start model₂ words₂ .words) moves₂ answers₂ .answer ≡ none
+      → Same h moves₁ moves₂
+      (let r = run model₁ (start model₁ words₁ .words) moves₁ answers₁ in record { answers = r .answers; words = r .words })
+      (let r = run model₂ (start model₂ words₂ .words) moves₂ answers₂ in record { answers = r .answers; words = r .words })
+  runs-same answers₁ answers₂ e₁ e₂ =
+      let r₁ = run-words model₁ (start model₁ words₁ .words) moves₁ answers₁ e₁ in
+      let r₂ = run-words model₂ (start model₂ words₂ .words) moves₂ answers₂ e₂ in
+      rw (r₁ .0, r₁ .1, r₂ .0, r₂ .1, start-words model₁ words₁ (s .started₁), start-words model₂ words₂ (s .started₂)) makes-same
+
+-- The theorem.
+pub rule3 : Rule3
+unfolding Rule3
+rule3 = steps-same
+
+pub rule3-run : Rule3Run
+unfolding Rule3Run
+rule3-run model₁ model₂ estimate₁ estimate₂ h words₁ words₂ moves₁ moves₂ answers₁ answers₂ s =
+    runs-same model₁ model₂ estimate₁ estimate₂ h words₁ words₂ moves₁ moves₂ s answers₁ answers₂

@@ -36,14 +36,14 @@ pub record Same (h : ℕ) (moves₁ moves₂ : List Move) (ran₁ ran₂ : Ran) 
   pub records : (b : ℕ) → b < 8 → b ≢ h → recordOf (ran₁ .words) b ≡ recordOf (ran₂ .words) b
 
 -- "Each list is of step calls, one a move: the first gets what a start wrote, each other what the last left, refused or not"
-pub Rule3 : Type 0
+unfoldable pub Rule3 : Type 0
 Rule3 =
     (model₁ model₂ estimate₁ estimate₂ : List ℕ) (h : ℕ) (words₁ words₂ : List ℕ) (moves₁ moves₂ : List Move)
     → Setting model₁ model₂ estimate₁ estimate₂ h words₁ words₂ moves₁ moves₂
     → Same h moves₁ moves₂ (steps model₁ (start model₁ words₁ .words) moves₁) (steps model₂ (start model₂ words₂ .words) moves₂)
 
 -- the same for a run over each list, into any lent answer lists, where neither run is refused
-pub Rule3Run : Type 0
+unfoldable pub Rule3Run : Type 0
 Rule3Run =
     (model₁ model₂ estimate₁ estimate₂ : List ℕ) (h : ℕ) (words₁ words₂ : List ℕ) (moves₁ moves₂ : List Move) (answers₁ answers₂ : List ℕ)
     → Setting model₁ model₂ estimate₁ estimate₂ h words₁ words₂ moves₁ moves₂

@@ -1,0 +1,58 @@
+-- The model that an image holds, entry by entry. Assumes nothing.
+use mathlib.Core.Path.{_≡_, refl}
+use mathlib.Core.List.{List}
+use Prim.Native.Nat.{ℕ, _+_, _/_, _%_, _≤_, _<_}
+use native.Mathlib.Omega.{arith}
+use lib.ListN.{length, List·getD-eq-default}
+use Rattle.definitions.specs.Words.{blockOf, countOf, dataWord}
+use Rattle.definitions.specs.Model.{noSite, noLine, noBox, siteAt, lineAt, boxAt, siteCount, lineCount, boxCount, kind}
+use Rattle.definitions.specs.Image.{siteRecord, lineRecord, nameCount, boxesOf, kindsOf, sitesBlock, linesOf, boxOfImage, modelOf}
+use Rattle.definitions.proofs.Bounded.{length-tabulate, getD-tabulate}
+
+module _ (image : List ℕ) where
+  -- the boxes
+  pub model-count : boxCount (modelOf image) ≡ boxesOf image
+  unfolding modelOf
+  model-count = length-tabulate (boxesOf image) (boxOfImage image)
+
+  pub model-box : (b : ℕ) → b < boxesOf image → boxAt (modelOf image) b ≡ boxOfImage image b
+  unfolding modelOf boxAt
+  model-box b h = getD-tabulate (boxesOf image) (boxOfImage image) noBox b h
+
+  -- the names
+  pub model-kinds : modelOf image .kinds ≡ kindsOf image
+  unfolding modelOf
+  model-kinds = refl
+
+  pub model-names : length (kindsOf image) ≡ nameCount image
+  unfolding kindsOf
+  model-names = length-tabulate (nameCount image) (λ n. dataWord (blockOf image 0) (2 + n))
+
+  pub model-kind : (n : ℕ) → n < nameCount image → kind (kindsOf image) n ≡ dataWord (blockOf image 0) (2 + n)
+  unfolding kindsOf kind
+  model-kind n h = getD-tabulate (nameCount image) (λ n. dataWord (blockOf image 0) (2 + n)) 0 n h
+
+  pub kind-past : (n : ℕ) → nameCount image ≤ n → kind (kindsOf image) n ≡ 0
+  unfolding kind
+  kind-past n h = List·getD-eq-default (kindsOf image) 0 (omega (arith, model-names))
+
+  -- a box's sites and lines
+  module _ (b : ℕ) where
+    pub box-sites : siteCount (boxOfImage image b) ≡ countOf (blockOf image (sitesBlock image b))
+    unfolding boxOfImage
+    box-sites = let block = blockOf image (sitesBlock image b) in length-tabulate (countOf block) (siteRecord block)
+
+    pub box-site : (i : ℕ) → i < countOf (blockOf image (sitesBlock image b))
+        → siteAt (boxOfImage image b) i ≡ siteRecord (blockOf image (sitesBlock image b)) i
+    unfolding boxOfImage siteAt
+    box-site i h = let block = blockOf image (sitesBlock image b) in getD-tabulate (countOf block) (siteRecord block) noSite i h
+
+    pub box-lines : lineCount (boxOfImage image b) ≡ linesOf image b
+    unfolding boxOfImage
+    box-lines = length-tabulate (linesOf image b) (λ i. lineRecord (blockOf image (sitesBlock image b + 1 + i / 31)) (i % 31))
+
+    pub box-line : (i : ℕ) → i < linesOf image b
+        → lineAt (boxOfImage image b) i ≡ lineRecord (blockOf image (sitesBlock image b + 1 + i / 31)) (i % 31)
+    unfolding boxOfImage lineAt
+    box-line i h =
+        getD-tabulate (linesOf image b) (λ i. lineRecord (blockOf image (sitesBlock image b + 1 + i / 31)) (i % 31)) noLine i h
