@@ -127,20 +127,27 @@ impl Printer<'_> {
     }
 
     /// A whole process: parallel parts stand without brackets, unless they
-    /// carry labels.
+    /// carry labels, on one text line or on one each.
     fn whole(&self, at: LineNo, indent: usize) -> String {
-        match self.line(at) {
-            Line::Parallel { first, second } if !self.labels => {
-                let flat = format!("{} | {}", self.flat(first), self.flat_chain(second));
-                if indent + flat.len() <= WIDTH {
-                    return flat;
-                }
-                let blanks = " ".repeat(indent);
-                let (left, right) = (self.part(first, indent), self.whole(second, indent + 2));
-                format!("{left}\n{blanks}| {right}")
-            }
-            _ => self.part(at, indent),
+        let flat = self.flat_chain(at);
+        if indent + flat.len() <= WIDTH {
+            return flat;
         }
+        let parts = self.chain(at);
+        let parts: Vec<String> = parts.into_iter().map(|at| self.part(at, indent + 2)).collect();
+        parts.join(&format!("\n{}| ", " ".repeat(indent)))
+    }
+
+    /// The parts of a process that bars group to the right.
+    fn chain(&self, at: LineNo) -> Vec<LineNo> {
+        let mut parts = Vec::new();
+        let mut rest = at;
+        while let (Line::Parallel { first, second }, false) = (self.line(rest), self.labels) {
+            parts.push(first);
+            rest = second;
+        }
+        parts.push(rest);
+        parts
     }
 
     /// A process as a part of another, on as many text lines as it takes.
