@@ -1,0 +1,78 @@
+// A block of an image that holds it: its heading, its data words and its check. These require the block, so that who reads an image
+// tests its length once.
+ghost use mathlib.Core.Path.{_≡_};
+ghost use Prim.Native.Nat.{_+_, _*_, _<_, _≤_};
+ghost use lib.ListN.{length};
+ghost use Rattle.definitions.specs.Bounded.{_is_};
+ghost use Rattle.definitions.specs.Words.{blockOf, dataWord};
+ghost use Rattle.definitions.specs.Check.{checkOf, checkHeld};
+ghost use Rattle.definitions.specs.ReadModel.{clearFrom};
+ghost use Rattle.blocks.specs.Answers.{headingOf};
+
+// Bytes 0 to 7 of a block; spare is bytes 6 and 7.
+pub struct Heading {
+    pub number: usize,
+    pub kind: usize,
+    pub place: usize,
+    pub count: usize,
+    pub spare: usize,
+}
+
+pub fn heading_of(image: &[u8], k: usize) -> Heading
+    requires { ⌜ 512 * (k + 1) ≤ length (now image) ⌝ }
+    ensures { λ r. ⌜ r ≡ headingOf (blockOf (now (image .entry)) k) ⌝ }
+{
+    let at = 512 * k;
+    Heading {
+        number: crate::words::half(image, at),
+        kind: crate::words::byte(image, at + 2),
+        place: crate::words::byte(image, at + 3),
+        count: crate::words::half(image, at + 4),
+        spare: crate::words::half(image, at + 6),
+    }
+}
+
+pub fn data_word(image: &[u8], k: usize, i: usize) -> u64
+    requires { ⌜ (512 * (k + 1) ≤ length (now image)) × (i < 62) ⌝ }
+    ensures { λ r. ⌜ r ≡ dataWord (blockOf (now (image .entry)) k) i ⌝ }
+{
+    crate::words::word(image, 512 * k + (8 + 8 * i))
+}
+
+// Data words from a number on are zero.
+pub fn clear_from(image: &[u8], k: usize, from: usize) -> bool
+    requires { ⌜ 512 * (k + 1) ≤ length (now image) ⌝ }
+    ensures { λ r. ⌜ r ≡ clearFrom from (blockOf (now (image .entry)) k) ⌝ }
+{
+    let mut i = from;
+    while i < 62 {
+        if data_word(image, k, i) != 0 {
+            return false;
+        }
+        i += 1;
+    }
+    true
+}
+
+// The check that a block ought to hold.
+pub fn check(image: &[u8], k: usize) -> u64
+    requires { ⌜ 512 * (k + 1) ≤ length (now image) ⌝ }
+    ensures { λ r. ⌜ r ≡ checkOf (blockOf (now (image .entry)) k) ⌝ }
+{
+    crate::sums::by_table(image, 512 * k)
+}
+
+pub fn check_by_steps(image: &[u8], k: usize) -> u64
+    requires { ⌜ 512 * (k + 1) ≤ length (now image) ⌝ }
+    ensures { λ r. ⌜ r ≡ checkOf (blockOf (now (image .entry)) k) ⌝ }
+{
+    crate::sums::by_steps(image, 512 * k)
+}
+
+// The check that a block holds is the one that it ought to hold.
+pub fn check_holds(image: &[u8], k: usize) -> bool
+    requires { ⌜ 512 * (k + 1) ≤ length (now image) ⌝ }
+    ensures { λ r. ⌜ r ≡ (checkOf (blockOf (now (image .entry)) k) is checkHeld (blockOf (now (image .entry)) k)) ⌝ }
+{
+    check(image, k) == crate::words::word(image, 512 * k + 504)
+}
