@@ -148,6 +148,14 @@ module _ {A : Type 0} where
       code (some a) = Unit
   fault-none false a e t = t
 
+  pub fault-some : (b : Bool) (a c : A) → faultIf b a ≡ some c → T b × (a ≡ c)
+  fault-some true a c e = (tt, cc)
+  fault-some false a c e = absurd (subst (λ (o : Option A). code o) e tt)
+    where
+      code : Option A → Type 0
+      code none = Unit
+      code (some a) = ⊥
+
   pub none-fault : (b : Bool) (a : A) → (T b → ⊥) → faultIf b a ≡ none
   none-fault true a f = absurd (f tt)
   none-fault false a f = refl

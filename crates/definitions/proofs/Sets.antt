@@ -19,7 +19,7 @@ use lib.ListN.{length, getD, length-append, List·getD-append}
 use lib.Seq.{getD-at}
 use Rattle.definitions.specs.Bounded.{_and_, _or_, _is_, _upto_, faultIf, orElse, firstBelow}
 use Rattle.definitions.specs.Sets.{has, forEach, forSome, within, meets, lowest, membersBelow, sizeBelow, size}
-use Rattle.definitions.proofs.Bounded.{decide, and-iff, upto-iff, all-iff, any-iff, true-of, of-true, false-of, not-false, same-test, fault-none, none-fault, each-none, none-each, first-stop, first-found}
+use Rattle.definitions.proofs.Bounded.{decide, and-iff, upto-iff, all-iff, any-iff, true-of, of-true, false-of, not-false, same-test, fault-none, fault-some, none-fault, each-none, none-each, first-stop, first-found}
 
 two-pos : 0 < 2
 two-pos = lit< tt
@@ -263,10 +263,6 @@ pub record IsLowest (s : ℕ) (p : ℕ → Bool) (n : ℕ) : Type 0 where
   pub member : T (has s n)
   pub passes : T (p n)
   pub least : (i : ℕ) → i < n → T (has s i) → T (p i) → ⊥
-
-pub fault-some : (b : Bool) (m n : ℕ) → faultIf b m ≡ some n → T b × (m ≡ n)
-fault-some true m n e = (tt, cc)
-fault-some false m n e = let z : _≡_ {A = ℕ} 0 1 = cc in absurd (omega arith)
 
 module _ (s : ℕ) (p : ℕ → Bool) where
   test : ℕ → Option ℕ
