@@ -351,6 +351,30 @@ fn full_before_spent() {
     assert_eq!(last_answer(room, unchanged, &[[5, 0, 0, 0, 0]]), 0);
 }
 
+/// Hide needs a shown site of the box, unhide a hidden one.
+#[test]
+fn switches_need_their_site() {
+    let hide = [6, 0, 0, 0, 0];
+    let unhide = [7, 0, 0, 0, 0];
+    let boxed = |site: &str, process: &str| {
+        format!("free x z c u box {site} x {{c}} {process} box site u {{c}} 0")
+    };
+    for (site, process, moves, answer) in [
+        ("site", "hide x.0", &[hide][..], 0),
+        ("site", "hide x.hide x.0", &[hide, hide], 16),
+        ("site", "hide x.unhide x.0", &[hide, unhide], 0),
+        ("site", "unhide x.0", &[unhide], 16),
+        ("hidden", "hide x.0", &[hide], 16),
+        ("hidden", "unhide x.0", &[unhide], 0),
+        ("site", "hide z.0", &[hide], 16),
+        ("site", "hide u.0", &[hide], 16),
+        ("site", "unhide z.0", &[unhide], 16),
+        ("site", "hide x.0", &[unhide], 14),
+    ] {
+        assert_eq!(last_answer(&boxed(site, process), unchanged, moves), answer, "{process}");
+    }
+}
+
 /// What is private is the held name, not the name that the line sends: a
 /// received name may hold a restricted one, and a name of kind 3 goes out.
 #[test]
