@@ -85,6 +85,11 @@ any-make (suc n) p x = or-iff (anyBelow n p) (p n) .1 (pick (ℕ-discrete n (x .
 pub any-iff : (n : ℕ) (p : ℕ → Bool) → T (anyBelow n p) ↔ ((i : ℕ) × (i < n) × T (p i))
 any-iff n p = (any-get n p, any-make n p)
 
+-- a choice by a test: the first where it holds, the second where it fails
+pub choice-iff : (c a b : Bool) → T (elim c [ true ↦ a | false ↦ b ]) ↔ ((T c → T a) × ((T c → ⊥) → T b))
+choice-iff true a b = (λ t. (λ _. t, λ f. absurd (f tt)), λ p. p .0 tt)
+choice-iff false a b = (λ t. (λ f. absurd f, λ _. t), λ p. p .1 (λ f. f))
+
 pub ruleset tests = (and-iff, implies-iff, is-iff, isnt-iff, below-iff, upto-iff, all-iff)
 
 -- a test, as a value

@@ -8,6 +8,7 @@ pub mod Valid
 pub mod Image
 pub mod ReadModel
 pub mod Refusals
+pub mod ReadEstimate
 pub mod Clauses
 pub mod ShutOff
 pub mod Slots
