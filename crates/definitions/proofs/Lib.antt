@@ -4,6 +4,8 @@ pub mod Starred
 pub mod Slots
 pub mod Arrays
 pub mod Faults
+pub mod Loops
+pub mod BlockFault
 pub mod Tree
 pub mod Valid
 pub mod Image
