@@ -2,6 +2,8 @@
 ghost use mathlib.Core.Path.{_≡_};
 use sets::NameNo;
 
+mod answers;
+mod order;
 pub mod views;
 
 // The paper's refusal: its number, and its two places.
