@@ -1,11 +1,11 @@
 -- The model that an image holds, entry by entry. Assumes nothing.
-use mathlib.Core.Path.{_≡_, refl}
+use mathlib.Core.Path.{_≡_, refl, sym, ap, _∙_}
 use mathlib.Core.List.{List}
-use Prim.Native.Nat.{ℕ, _+_, _/_, _%_, _≤_, _<_}
+use Prim.Native.Nat.{ℕ, _+_, _*_, _/_, _%_, _^_, _≤_, _<_}
 use native.Mathlib.Omega.{arith}
 use lib.ListN.{length, List·getD-eq-default}
 use Rattle.definitions.specs.Words.{blockOf, countOf, dataWord}
-use Rattle.definitions.specs.Model.{noSite, noLine, noBox, siteAt, lineAt, boxAt, siteCount, lineCount, boxCount, kind}
+use Rattle.definitions.specs.Model.{Site, Line, noSite, noLine, noBox, siteAt, lineAt, boxAt, siteCount, lineCount, boxCount, kind}
 use Rattle.definitions.specs.Image.{siteRecord, lineRecord, nameCount, boxesOf, kindsOf, sitesBlock, linesOf, boxOfImage, modelOf}
 use Rattle.definitions.proofs.Bounded.{length-tabulate, getD-tabulate}
 
@@ -56,3 +56,37 @@ module _ (image : List ℕ) where
     unfolding boxOfImage lineAt
     box-line i h =
         getD-tabulate (linesOf image b) (λ i. lineRecord (blockOf image (sitesBlock image b + 1 + i / 31)) (i % 31)) noLine i h
+
+-- ---- records from their two words
+
+module _ (block : List ℕ) (i w t : ℕ) (first : w ≡ dataWord block (2 * i)) (second : t ≡ dataWord block (2 * i + 1)) where
+  pub site-of : _≡_ {A = Site} (record { subject = w % 256; flag = w / 2 ^ 8 % 256; spare = w / 2 ^ 16; type = t }) (siteRecord block i)
+  unfolding siteRecord
+  site-of =
+      λ k. record { subject = first k % 256; flag = first k / 2 ^ 8 % 256; spare = first k / 2 ^ 16; type = second k }
+
+  pub line-of : _≡_ {A = Line}
+      (record {
+        op = w % 256;
+        name1 = w / 2 ^ 8 % 256;
+        name2 = w / 2 ^ 16 % 256;
+        spare = w / 2 ^ 24 % 256;
+        child1 = w / 2 ^ 32 % 2 ^ 16;
+        child2 = w / 2 ^ 48 % 2 ^ 16;
+        type = t;
+      })
+      (lineRecord block i)
+  unfolding lineRecord
+  line-of = λ k. record {
+    op = first k % 256;
+    name1 = first k / 2 ^ 8 % 256;
+    name2 = first k / 2 ^ 16 % 256;
+    spare = first k / 2 ^ 24 % 256;
+    child1 = first k / 2 ^ 32 % 2 ^ 16;
+    child2 = first k / 2 ^ 48 % 2 ^ 16;
+    type = second k;
+  }
+
+-- the kind of a listed name, from the head's word
+pub kind-of : (image : List ℕ) (n m w : ℕ) → n < nameCount image → m ≡ n → w ≡ dataWord (blockOf image 0) (2 + m) → w ≡ kind (kindsOf image) n
+kind-of image n m w h q e = e ∙ ap (λ (i : ℕ). dataWord (blockOf image 0) (2 + i)) q ∙ sym (model-kind image n h)

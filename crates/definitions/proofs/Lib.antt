@@ -1,4 +1,5 @@
 pub mod Bounded
+pub mod Loops
 pub mod Faults
 pub mod Sets
 pub mod Words
@@ -8,6 +9,7 @@ pub mod Valid
 pub mod Image
 pub mod ReadModel
 pub mod Refusals
+pub mod BlockFault
 pub mod ReadEstimate
 pub mod Clauses
 pub mod ShutOff

@@ -1,26 +1,28 @@
 -- When a model image is not refused: exactly when its length, each block in the order asked for, and each record of its model fit;
 -- and then the model that it holds is valid. Assumes nothing.
-use mathlib.Core.Path.{_≡_, refl}
+use mathlib.Core.Path.{_≡_, refl, sym, ap, _∙_}
 use mathlib.Core.Bool.{Bool, true, false}
 use mathlib.Core.List.{List}
 use mathlib.Core.Logic.{_↔_}
 use mathlib.Core.Option.{Option, none, some}
-use Prim.Native.Nat.{ℕ, zero, suc, _+_, _-_, _*_, _%_, _≤_, _<_}
+use Prim.Native.Nat.{ℕ, zero, suc, _+_, _-_, _*_, _/_, _%_, _≤_, _<_}
 use native.Mathlib.Nat.{le-refl, le-antisymm, not-suc-le-zero, add-zero}
+use native.Mathlib.Numerals.{add-one}
 use native.Mathlib.Omega.{arith}
 use native.Mathlib.Decide.{decLt, ℕ-discrete}
-use lib.Dec.{T, lit≤}
-use lib.ListN.{length}
+use lib.Dec.{T, lit<, lit≤}
+use lib.ListN.{length, List·getD-eq-default}
 use Rattle.definitions.specs.Bounded.{_isnt_, _below_, faultIf, orElse}
-use Rattle.definitions.specs.Words.{blockOf, numberOf, kindOf, boxOf, countOf, spareOf, dataWord}
+use Rattle.definitions.specs.Words.{byteAt, blockOf, numberOf, kindOf, boxOf, countOf, spareOf, dataWord}
 use Rattle.definitions.specs.Check.{checkOf, checkHeld}
 use Rattle.definitions.specs.Answer.{Refusal, refusal}
 use Rattle.definitions.specs.Model.{kind}
 use Rattle.definitions.specs.Image.{nameCount, boxesOf, kindsOf, lineBlocks, sitesBlock, linesOf, boxOfImage, modelOf}
 use Rattle.definitions.specs.ReadModel.{blockFault, clearFrom, headCounts, headFault, sitesFault, linesFault, boxFault, leftOverFault, lengthFault, blocksFault, readModel}
-use Rattle.definitions.proofs.Bounded.{tests, below-iff, right-none, fault-none, not-false}
+use Rattle.definitions.proofs.Bounded.{tests, below-iff, right-none, fault-none, not-false, true-of, false-of}
 use Rattle.definitions.proofs.Faults.{faults}
 use Rattle.definitions.proofs.Valid.{Counts, Fits, fits-iff, Valid, valid-of}
+use Rattle.definitions.proofs.Words.{byteAt-block}
 use Rattle.definitions.proofs.Image.{model-count, model-box, model-kinds, model-names, model-kind, kind-past, box-sites, box-lines}
 
 -- ---- one block
@@ -285,3 +287,100 @@ valid-image image e =
     (λ n. rw (model-kinds image) (kinds-fit image f n))
     (rw (model-count image) (f .head .boxes))
     (λ b h. let k = rw (model-count image) at h in rw (model-box image b k) (counts image f b k))
+
+-- ---- the blocks of an image
+
+pub sites-most : (image : List ℕ) (b : ℕ) → sitesBlock image b ≤ 1 + 5 * b
+unfolding sitesBlock
+sites-most image zero = lit≤ tt
+sites-most image (suc b) =
+    let k = sitesBlock image b in
+    let h : k ≤ 1 + 5 * b = sites-most image b in
+    let l : lineBlocks 4 image (k + 1) ≤ 4 = most-blocks 4 image (k + 1) in
+    omega arith
+
+pub sites-next : (image : List ℕ) (b k n : ℕ) → k ≡ sitesBlock image b → n ≡ lineBlocks 4 image (k + 1) → k + 1 + n ≡ sitesBlock image (b + 1)
+unfolding sitesBlock
+sites-next image b k n e q =
+    ap (λ (i : ℕ). k + 1 + i) q ∙ ap (λ (i : ℕ). i + 1 + lineBlocks 4 image (i + 1)) e ∙ ap (sitesBlock image) (sym (add-one b))
+
+pub sites-first : (image : List ℕ) → 1 ≡ sitesBlock image 0
+unfolding sitesBlock
+sites-first image = refl
+
+-- how many blocks a box's lines take: the first of four with fewer than 31 ends the box
+module _ (image : List ℕ) (k : ℕ) where
+  blocks-stop : (most : ℕ) → countOf (blockOf image k) < 31 → 1 ≡ lineBlocks (suc most) image k
+  unfolding lineBlocks
+  blocks-stop most h =
+      sym
+      (ap (λ (b : Bool). elim b as (λ _. ℕ) [ true ↦ 1 | false ↦ 1 + lineBlocks most image (k + 1) ])
+      (true-of (countOf (blockOf image k) below 31) (below-iff (countOf (blockOf image k)) 31 .1 h)))
+
+  blocks-more : (most : ℕ) → 31 ≤ countOf (blockOf image k) → 1 + lineBlocks most image (k + 1) ≡ lineBlocks (suc most) image k
+  unfolding lineBlocks
+  blocks-more most h =
+      sym
+      (ap (λ (b : Bool). elim b as (λ _. ℕ) [ true ↦ 1 | false ↦ 1 + lineBlocks most image (k + 1) ])
+      (false-of (countOf (blockOf image k) below 31) (λ t. let l = below-iff (countOf (blockOf image k)) 31 .0 t in omega arith)))
+
+blocks-last : (image : List ℕ) (k : ℕ) → 1 ≡ lineBlocks 1 image k
+unfolding lineBlocks
+blocks-last image k = go (countOf (blockOf image k) below 31)
+  where
+    go : (b : Bool) → _≡_ {A = ℕ} 1 (elim b as (λ _. ℕ) [ true ↦ 1 | false ↦ 1 + lineBlocks 0 image (k + 1) ])
+    go true = refl
+    go false = refl
+
+module _ (image : List ℕ) (k a : ℕ) (first : a ≡ countOf (blockOf image k)) where
+  pub blocks-1 : a < 31 → 1 ≡ lineBlocks 4 image k
+  blocks-1 h = blocks-stop image k 3 (omega arith)
+
+  module _ (b : ℕ) (second : b ≡ countOf (blockOf image (k + 1))) where
+    pub blocks-2 : 31 ≤ a → b < 31 → 2 ≡ lineBlocks 4 image k
+    blocks-2 h l = ap (λ (n : ℕ). 1 + n) (blocks-stop image (k + 1) 2 (omega arith)) ∙ blocks-more image k 3 (omega arith)
+
+    module _ (c : ℕ) (third : c ≡ countOf (blockOf image (k + 2))) where
+      third-at : c ≡ countOf (blockOf image (k + 1 + 1))
+      third-at = third ∙ ap (λ (i : ℕ). countOf (blockOf image i)) (let e : k + 2 ≡ k + 1 + 1 = omega arith in e)
+
+      pub blocks-3 : 31 ≤ a → 31 ≤ b → c < 31 → 3 ≡ lineBlocks 4 image k
+      blocks-3 h l m =
+          ap (λ (n : ℕ). 1 + n)
+          (ap (λ (n : ℕ). 1 + n) (blocks-stop image (k + 1 + 1) 1 (omega (arith, third-at))) ∙ blocks-more image (k + 1) 2 (omega arith))
+          ∙ blocks-more image k 3 (omega arith)
+
+      pub blocks-4 : 31 ≤ a → 31 ≤ b → 31 ≤ c → 4 ≡ lineBlocks 4 image k
+      blocks-4 h l m =
+          ap (λ (n : ℕ). 1 + n)
+          (ap (λ (n : ℕ). 1 + n)
+          (ap (λ (n : ℕ). 1 + n) (blocks-last image (k + 1 + 1 + 1)) ∙ blocks-more image (k + 1 + 1) 1 (omega (arith, third-at)))
+          ∙ blocks-more image (k + 1) 2 (omega arith))
+          ∙ blocks-more image k 3 (omega arith)
+
+byte-past : (s : List ℕ) (at : ℕ) → length s ≤ at → byteAt s at ≡ 0
+unfolding byteAt
+byte-past s at h = List·getD-eq-default s 0 h
+
+-- a block that the image does not hold counts nothing, where the image is whole blocks
+pub count-missing : (image : List ℕ) (k : ℕ) → length image % 512 ≡ 0 → (512 * (k + 1) ≤ length image → ⊥) → 0 ≡ countOf (blockOf image k)
+unfolding countOf
+count-missing image k e f =
+    let past : (i : ℕ) → i < 512 → byteAt (blockOf image k) i ≡ 0 =
+    λ i h. byteAt-block image k i h ∙ byte-past image (512 * k + i) (omega arith) in
+    omega (arith, past 4 (lit< tt), past 5 (lit< tt))
+
+-- a box's lines stand in blocks that the image holds; its sites too
+module _ (image : List ℕ) (f : Blocks image) (b : ℕ) (h : b < boxesOf image) where
+  pub lines-there : (i : ℕ) → i < linesOf image b → 512 * (sitesBlock image b + 1 + i / 31 + 1) ≤ length image
+  unfolding linesOf
+  lines-there i l =
+      let k = sitesBlock image b in
+      let n = lineBlocks 4 image (k + 1) in
+      let some : 1 ≤ n = some-block 3 image (k + 1) in
+      let e : k + 1 + (n - 1) ≡ k + n = omega arith in
+      let last : countOf (blockOf image (k + n)) ≤ 31 = rw e at (f .box b h .lines (n - 1) (omega arith) .most) in
+      f .box b h .lines (i / 31) (omega arith) .headed .there
+
+  pub sites-there : 512 * (sitesBlock image b + 1) ≤ length image
+  sites-there = f .box b h .sites .headed .there

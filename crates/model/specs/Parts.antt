@@ -1,0 +1,87 @@
+-- Parts of the definitions, as the functions of this crate answer them. Assumes nothing.
+use mathlib.Core.Path.{_≡_}
+use mathlib.Core.Bool.{Bool, true, false, not}
+use mathlib.Core.List.{List}
+use mathlib.Core.Option.{Option, none, some}
+use Prim.Native.Nat.{ℕ, _+_, _-_, _*_, _/_, _≤_, _<_}
+use lib.ListN.{length}
+use Rattle.definitions.specs.Bounded.{_and_, _implies_, _is_, _isnt_, _below_, _upto_, allBelow, faultIf, orElse, firstBelow}
+use Rattle.definitions.specs.Sets.{has}
+use Rattle.definitions.specs.Words.{blockOf, numberOf, kindOf, boxOf, countOf, spareOf, dataWord}
+use Rattle.definitions.specs.Check.{checkOf, checkHeld}
+use Rattle.definitions.specs.Answer.{Refusal, refusal}
+use Rattle.definitions.specs.Model.{Model, listed, kind, lineAt, boxAt}
+use Rattle.definitions.specs.Image.{boxesOf, lineBlocks, sitesBlock, linesOf}
+use Rattle.definitions.specs.ReadModel.{clearFrom, linesFault, boxFault, leftOverFault, lineFits, treeFits}
+
+-- ---- faults
+
+-- the first three faults of a block: missing, check, heading
+unfoldable pub topFault : List ℕ → ℕ → ℕ → ℕ → Option Refusal
+topFault image k asked box =
+    let block = blockOf image k in
+    orElse (faultIf (length image below 512 * (k + 1)) (refusal 1 k 0))
+    (orElse (faultIf (checkOf block isnt checkHeld block) (refusal 2 k 0))
+    (faultIf (not (numberOf block is k and kindOf block is asked and boxOf block is box and spareOf block is 0)) (refusal 3 k 0)))
+
+-- the last two faults of a block of n records of two words: count, stray
+unfoldable pub countedFault : List ℕ → ℕ → ℕ → Bool → Option Refusal
+countedFault image k n counts = orElse (faultIf (not counts) (refusal 4 k 0)) (faultIf (not (clearFrom (2 * n) (blockOf image k))) (refusal 5 k 0))
+
+-- the kinds of so many names are at most 3
+unfoldable pub kindsFit : List ℕ → ℕ → Bool
+kindsFit block names = allBelow 60 (λ n. n below names implies dataWord block (2 + n) upto 3)
+
+-- the first fault of a box's lines, from block k on; of so many boxes, and of what is left over
+unfoldable pub linesFaults : List ℕ → ℕ → ℕ → Option Refusal
+linesFaults image b k = firstBelow (lineBlocks 4 image k) (λ j. linesFault image (k + j) b j)
+
+unfoldable pub boxesFault : List ℕ → ℕ → Option Refusal
+boxesFault image boxes = orElse (firstBelow boxes (boxFault image)) (leftOverFault image (sitesBlock image boxes))
+
+-- the first of n records of box b at which a test fails
+unfoldable pub boxMisfit : ℕ → ℕ → (ℕ → ℕ → Bool) → ℕ → Option Refusal
+boxMisfit number n fits b = firstBelow n (λ i. faultIf (not (fits b i)) (refusal number b i))
+
+-- the tests of 7 and 8 by box and line
+abbrev pub lineFit : Model → ℕ → ℕ → Bool
+lineFit m b i = lineFits (m .kinds) (lineAt (boxAt m b) i)
+
+abbrev pub treeFit : Model → ℕ → ℕ → Bool
+treeFit m b i = treeFits (boxAt m b) i
+
+-- ---- where a box stands
+
+-- box b has n lines, and k is the block of its sites
+pub record LinesAt (image : List ℕ) (b k n : ℕ) : Type 0 where
+  pub inside : b < boxesOf image
+  pub at : k ≡ sitesBlock image b
+  pub lines : n ≡ linesOf image b
+  pub few : n ≤ 124
+  pub there : (i : ℕ) → i < n → 512 * (k + 1 + i / 31 + 1) ≤ length image
+
+-- box b has n sites, in block k
+pub record SitesAt (image : List ℕ) (b k n : ℕ) : Type 0 where
+  pub inside : b < boxesOf image
+  pub at : k ≡ sitesBlock image b
+  pub sites : n ≡ countOf (blockOf image k)
+  pub few : n ≤ 16
+  pub there : 512 * (k + 1) ≤ length image
+
+-- ---- sets
+
+-- s is the set of the names below 64 that pass a test
+pub record SetOf (s : ℕ) (p : ℕ → Bool) : Type 0 where
+  pub at : (n : ℕ) → n < 64 → has s n ≡ p n
+
+-- the listed names, and those of kinds 1, 2 and 3
+pub record KindsIn (kinds : List ℕ) (a r c e : ℕ) : Type 0 where
+  pub few : length kinds ≤ 60
+  pub all : SetOf a (listed kinds)
+  pub restricted : SetOf r (λ n. listed kinds n and kind kinds n is 1)
+  pub received : SetOf c (λ n. listed kinds n and kind kinds n is 2)
+  pub exposed : SetOf e (λ n. listed kinds n and kind kinds n is 3)
+
+-- two words as a set of the lines 0 to 127
+unfoldable pub lineIs : ℕ → ℕ → ℕ → Bool
+lineIs low high c = elim (c below 64) [ true ↦ has low c | false ↦ has high (c - 64) ]
