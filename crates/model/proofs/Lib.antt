@@ -1,3 +1,4 @@
 pub mod Firsts
 pub mod Faults
 pub mod Records
+pub mod Runs

@@ -3,6 +3,7 @@ ghost use mathlib.Core.Path.{_≡_};
 use sets::NameNo;
 
 mod answers;
+mod boxes;
 mod fits;
 mod names;
 mod order;
