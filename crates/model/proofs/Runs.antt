@@ -30,11 +30,11 @@ use Rattle.model.specs.Told.{KidsOf, PutAt, HandedDown, AboveTold, SiteT
 
 -- ---- one more
 
-any-more : (n : ℕ) (p : ℕ → Bool) → anyBelow (n + 1) p ≡ (anyBelow n p or p n)
+pub any-more : (n : ℕ) (p : ℕ → Bool) → anyBelow (n + 1) p ≡ (anyBelow n p or p n)
 unfolding anyBelow
 any-more n p = ap (λ (m : ℕ). anyBelow m p) (add-one n)
 
-any-zero : (p : ℕ → Bool) → anyBelow 0 p ≡ false
+pub any-zero : (p : ℕ → Bool) → anyBelow 0 p ≡ false
 unfolding anyBelow
 any-zero p = refl
 
@@ -43,7 +43,7 @@ unfolding _or_
 or-assoc true b c = refl
 or-assoc false b c = refl
 
-or-false : (a : Bool) → (a or false) ≡ a
+pub or-false : (a : Bool) → (a or false) ≡ a
 unfolding _or_
 or-false true = refl
 or-false false = refl
@@ -57,22 +57,22 @@ pub line-held : (image : List ℕ) (b k n : ℕ) → LinesAt image b k n → Lin
 line-held image b k n h = h .held
 
 module _ (image : List ℕ) (b k n : ℕ) (h : LinesAt image b k n) where
-  line-at : (i : ℕ) → i < n → lineOf image k i ≡ lineAt (boxAt (modelOf image) b) i
+  pub line-at : (i : ℕ) → i < n → lineOf image k i ≡ lineAt (boxAt (modelOf image) b) i
   line-at i l =
       ap (λ (j : ℕ). lineOf image j i) (h .at)
       ∙ sym (box-line image b i (omega (arith, h .lines))) ∙ ap (λ (x : Box). lineAt x i) (sym (model-box image b (h .inside)))
 
-  line-count : n ≡ lineCount (boxAt (modelOf image) b)
+  pub line-count : n ≡ lineCount (boxAt (modelOf image) b)
   line-count = h .lines ∙ sym (box-lines image b) ∙ ap lineCount (sym (model-box image b (h .inside)))
 
 module _ (image : List ℕ) (b k n : ℕ) (h : SitesAt image b k n) where
-  site-at : (i : ℕ) → i < n → siteRecord (blockOf image k) i ≡ siteAt (boxAt (modelOf image) b) i
+  pub site-at : (i : ℕ) → i < n → siteRecord (blockOf image k) i ≡ siteAt (boxAt (modelOf image) b) i
   site-at i l =
       ap (λ (j : ℕ). siteRecord (blockOf image j) i) (h .at)
       ∙ sym (box-site image b i (omega (arith, h .sites, ap (λ (j : ℕ). countOf (blockOf image j)) (h .at))))
       ∙ ap (λ (x : Box). siteAt x i) (sym (model-box image b (h .inside)))
 
-  site-count : n ≡ siteCount (boxAt (modelOf image) b)
+  pub site-count : n ≡ siteCount (boxAt (modelOf image) b)
   site-count =
       h .sites ∙ ap (λ (j : ℕ). countOf (blockOf image j)) (h .at) ∙ sym (box-sites image b) ∙ ap siteCount (sym (model-box image b (h .inside)))
 

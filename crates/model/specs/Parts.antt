@@ -11,9 +11,9 @@ use Rattle.definitions.specs.Sets.{has}
 use Rattle.definitions.specs.Words.{blockOf, numberOf, kindOf, boxOf, countOf, spareOf, dataWord}
 use Rattle.definitions.specs.Check.{checkOf, checkHeld}
 use Rattle.definitions.specs.Answer.{Refusal, refusal}
-use Rattle.definitions.specs.Model.{Site, Line, Model, listed, kind, lineAt, boxAt, hasChild, binds}
+use Rattle.definitions.specs.Model.{Site, Line, Model, listed, kind, lineAt, boxAt, siteCount, lineCount, hasChild, binds}
 use Rattle.definitions.specs.Image.{siteRecord, lineRecord, boxesOf, lineBlocks, sitesBlock, linesOf, modelOf}
-use Rattle.definitions.specs.ReadModel.{clearFrom, linesFault, boxFault, leftOverFault, typeFits, lineFits, treeFits}
+use Rattle.definitions.specs.ReadModel.{clearFrom, linesFault, boxFault, leftOverFault, typeFits, siteFits, lineFits, treeFits, reachFits, firstMisfit}
 
 -- ---- faults
 
@@ -50,6 +50,19 @@ lineFit m b i = lineFits (m .kinds) (lineAt (boxAt m b) i)
 
 abbrev pub treeFit : Model → ℕ → ℕ → Bool
 treeFit m b i = treeFits (boxAt m b) i
+
+-- 6 to 9, each over the whole model
+unfoldable pub sitesMisfit : Model → Option Refusal
+sitesMisfit m = firstMisfit 6 m siteCount (siteFits m)
+
+unfoldable pub linesMisfit : Model → Option Refusal
+linesMisfit m = firstMisfit 7 m lineCount (lineFit m)
+
+unfoldable pub treesMisfit : Model → Option Refusal
+treesMisfit m = firstMisfit 8 m lineCount (treeFit m)
+
+unfoldable pub reachMisfit : Model → Option Refusal
+reachMisfit m = firstMisfit 9 m lineCount (reachFits m)
 
 -- ---- where a box stands
 
@@ -131,6 +144,9 @@ childIn image k n c = anyBelow n (λ i. hasChild (lineOf image k i) c)
 -- the name m is one of the first n, and of kind k
 unfoldable pub kindIn : List ℕ → ℕ → ℕ → ℕ → Bool
 kindIn block k n m = m below n and dataWord block (2 + m) is k
+
+unfoldable pub isBelow : ℕ → ℕ → Bool
+isBelow n m = m below n
 
 -- the name m needs no binding
 unfoldable pub isPlain : List ℕ → ℕ → Bool
