@@ -7,7 +7,7 @@ use Prim.Native.Nat.{ℕ, zero, suc, _+_, _*_, _%_, _≤_, _<_, zero-le}
 use native.Mathlib.Nat.{le-refl, le-antisymm}
 use native.Mathlib.Numerals.{add-one}
 use native.Mathlib.Omega.{arith}
-use native.Mathlib.Decide.{decLt}
+use native.Mathlib.Decide.{ℕ-discrete, decLt}
 use borrow.Author.Needs.{needs}
 use lib.Dec.{T}
 use lib.ListN.{length, getD}
@@ -17,23 +17,27 @@ use Rattle.definitions.specs.Bounded.{_and_, _or_, _is_, _below_, anyBelow, fau
 use Rattle.definitions.specs.Sets.{has}
 use Rattle.definitions.specs.Words.{blockOf, countOf}
 use Rattle.definitions.specs.Answer.{Refusal, refusal}
-use Rattle.definitions.specs.Model.{Site, Line, Box, Model, siteAt, lineAt, boxAt, siteCount, lineCount, boxCount, listed, isFree, kind, binds, bindsIn}
+use Rattle.definitions.specs.Model.{Site, Line, Box, Model, siteAt, lineAt, boxAt, siteCount, lineCount, boxCount, listed, isFree, kind, binds, bindsIn, owner}
 use Rattle.definitions.specs.Image.{siteRecord, nameCount, boxesOf, kindsOf, sitesBlock, linesOf, boxOfImage, modelOf}
 use Rattle.definitions.specs.ReadModel.{usedBefore, siteFits, treeFits, boundBefore, reachFits, firstMisfit, lengthFault, blocksFault, modelFault, readModel}
-use Rattle.definitions.proofs.Bounded.{and-iff, or-iff, is-iff, below-iff, any-cong, true-of, false-of, same-test, first-zero, first-more, first-stop}
-use Rattle.definitions.proofs.Faults.{faults}
+use Rattle.definitions.proofs.Bounded.{and-iff, or-iff, is-iff, below-iff, any-cong, true-of, false-of, same-test, of-true, not-false, first-zero, first-more, first-stop, each-none, none-fault}
+use Rattle.definitions.proofs.Faults.{faults, else-iff}
 use Rattle.definitions.proofs.Sets.{has-none}
 use Rattle.definitions.proofs.Image.{model-count, model-box, model-names, kind-past, box-sites}
+use Rattle.definitions.proofs.Valid.{owner-is}
 use Rattle.definitions.proofs.ReadModel.{Blocks, blocks-iff, length-iff, lines-most, lines-there, sites-there}
 use Rattle.model.specs.declared.Answer.{Answer}
 use Rattle.model.specs.declared.Answer.the-variants.{Held, Refused}
+use Rattle.model.specs.declared.Owner.{Owner}
+use Rattle.model.specs.declared.Owner.the-variants.{Nobody, Of}
 use Rattle.model.specs.declared.Refusal as code
 use Rattle.model.specs.declared.Layout.{Layout}
 use Rattle.model.specs.Records.{readOf}
-use Rattle.model.specs.Parts.{SetOf, KindsIn, LinesThere, LinesAt, SitesAt, TreesFit, boxMisfit, lineFit, treeFit, sitesMisfit, linesMisfit, treesMisfit, reachMisfit, subjectIn, isPlain, lacks}
+use Rattle.model.specs.Parts.{SetOf, KindsIn, LinesThere, LinesAt, SitesAt, TreesFit, boxMisfit, lineFit, treeFit, sitesMisfit, linesMisfit, treesMisfit, reachMisfit, subjectIn, isPlain, lacks, lineOf}
 use Rattle.model.specs.Holds.{Holds}
+use Rattle.model.specs.Told.{OwnerTold}
 use Rattle.model.proofs.Firsts.{else-stop, else-more, is-none}
-use Rattle.model.proofs.Runs.{any-more, any-zero, or-false, site-at, site-count, line-count}
+use Rattle.model.proofs.Runs.{any-more, any-zero, or-false, site-at, site-count, line-at, line-count}
 
 first : (b : Bool) → ((true and b) or not true) ≡ b
 unfolding _and_ _or_
@@ -371,5 +375,83 @@ read-held image g e q = is-none (blocksFault image) g e q
 -- a refusal is not held
 pub refused-not : {A : Type 0} (r : Answer) (x : code.Refusal) → r ≡ Refused x → r ≡ Held → A
 refused-not r x p q = let z : _≡_ {A = ℕ} 0 1 = cc in absurd (omega arith)
+
+-- ---- what an image that is held says of each box
+
+pub held-blocks : (image : List ℕ) → readModel image ≡ none → blocksFault image ≡ none
+unfolding readModel
+held-blocks image e = else-iff (blocksFault image) (modelFault (modelOf image)) .0 (else-iff (lengthFault image) _ .0 e .1) .0
+
+pub held-trees : (image : List ℕ) → readModel image ≡ none → treesMisfit (modelOf image) ≡ none
+unfolding readModel
+held-trees image e =
+    let m = modelOf image in
+    let f = sym (all-parts m) ∙ else-iff (blocksFault image) (modelFault m) .0 (else-iff (lengthFault image) _ .0 e .1) .1 in
+    else-iff (treesMisfit m) (reachMisfit m) .0 (else-iff (linesMisfit m) _ .0 (else-iff (sitesMisfit m) _ .0 f .1) .1) .0
+
+module _ (image : List ℕ) (l : Layout) (e : readModel image ≡ none) (h : Holds image l) (b : ℕ) (q : b < l .boxes) where
+  pub held-lines : LinesAt image b (getD (l .at) b 0) (getD (l .lines) b 0)
+  held-lines = lines-at image l (held-blocks image e) h b q
+
+  pub held-sites : SitesAt image b (getD (l .at) b 0) (getD (l .sites) b 0)
+  held-sites = sites-at image l (held-blocks image e) h b q
+
+  pub held-tree : TreesFit image b (getD (l .lines) b 0)
+  held-tree = trees-fit image l b (held-blocks image e) h (held-trees image e) q
+
+-- the view of a box's site and line, in the model
+pub site-in : (image : List ℕ) (b k n i : ℕ) (s : Site) → SitesAt image b k n → i < n → s ≡ siteRecord (blockOf image k) i → s ≡ siteAt (boxAt (modelOf image) b) i
+site-in image b k n i s h l e = e ∙ site-at image b k n h i l
+
+pub line-in : (image : List ℕ) (b k n i : ℕ) (x : Line) → LinesAt image b k n → i < n → x ≡ lineOf image k i → x ≡ lineAt (boxAt (modelOf image) b) i
+line-in image b k n i x h l e = e ∙ line-at image b k n h i l
+
+-- ---- the box that binds a name
+
+-- none of the boxes before b does
+pub record NotYet (bound : List ℕ) (boxes n b : ℕ) : Type 0 where
+  pub upto : b ≤ boxes
+  pub none : (c : ℕ) → c < b → has (getD bound c 0) n ≡ false
+
+module _ (l : Layout) (n : ℕ) where
+  pub owner-start : NotYet (l .bound) (l .boxes) n 0
+  owner-start = record { upto = zero-le; none = λ c q. absurd (omega arith) }
+
+  pub owner-turn : (b : ℕ) (t : Bool) → NotYet (l .bound) (l .boxes) n b → b < l .boxes → t ≡ has (getD (l .bound) b 0) n → t ≡ false → NotYet (l .bound) (l .boxes) n (b + 1)
+  owner-turn b t p q e z = record { upto = omega arith; none = λ c w. pick c w (ℕ-discrete b c) }
+    where
+      pick : (c : ℕ) → c < b + 1 → Dec (b ≡ c) → has (getD (l .bound) c 0) n ≡ false
+      pick c w (yes v) = ap (λ (i : ℕ). has (getD (l .bound) i 0) n) (sym v) ∙ sym e ∙ z
+      pick c w (no v) = p .none c (omega arith)
+
+  binds-at : (image : List ℕ) → Holds image l → (b : ℕ) → b < l .boxes → n < 64 → has (getD (l .bound) b 0) n ≡ bindsIn (boxAt (modelOf image) b) n
+  binds-at image h b q w =
+      let k : b < boxesOf image = let z = h .boxes in omega arith in
+      h .bound b k n w ∙ ap (λ (x : Box). bindsIn x n) (sym (model-box image b k))
+
+  pub owner-stop : (b : ℕ) (t : Bool) → NotYet (l .bound) (l .boxes) n b → b < l .boxes → t ≡ has (getD (l .bound) b 0) n → t ≡ true → OwnerTold l n (Of b)
+  owner-stop b t p q e z = record {
+    tells = λ image h w.
+        sym (owner-is (modelOf image) n b (let k = model-count image in let v = h .boxes in omega arith) (of-true (sym (binds-at image h b q w) ∙ sym e ∙ z))
+        (λ c v u. not-false (sym (binds-at image h c (omega arith) w) ∙ p .none c v) u));
+  }
+
+  pub owner-end : (b : ℕ) → NotYet (l .bound) (l .boxes) n b → l .boxes ≤ b → OwnerTold l n Nobody
+  unfolding owner
+  owner-end b p q = record {
+    tells = λ image h w.
+        sym
+        (each-none (λ c. faultIf (bindsIn (boxAt (modelOf image) c) n) c) (boxCount (modelOf image))
+        (λ c v. let k : c < l .boxes = let z = model-count image in let y = h .boxes in omega arith in
+        none-fault (bindsIn (boxAt (modelOf image) c) n) c (not-false (sym (binds-at image h c k w) ∙ p .none c (omega arith)))));
+  }
+
+  pub owner-room : (b : ℕ) → l .boxes ≤ 8 → b < l .boxes → b < 8
+  owner-room b h q = omega arith
+
+  pub owner-scale : (b : ℕ) → l .boxes ≤ 8 → b < l .boxes → Fits w64 (b * 8)
+  owner-scale b h q = omega arith
+
+pub ruleset owners = (needs, owner-start, owner-turn, owner-stop, owner-end, owner-room, owner-scale)
 
 pub ruleset models = (needs, in-room, in-scale, site-there, site-few, lines-at, sites-at, few-kinds, free-in, kinds-in, plain-in, used-none, six-start, six-turn, six-stop, six-end, seven-start, seven-turn, seven-stop, seven-end, eight-start, eight-turn, eight-stop, eight-end, bound-none, nine-start, trees-fit, nine-turn, nine-stop, nine-end, model-six, model-seven, model-eight, model-nine, trees-none, read-length, read-whole, read-blocks, read-model, read-held)

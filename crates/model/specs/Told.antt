@@ -6,10 +6,14 @@ use mathlib.Core.List.{List}
 use lib.Dec.{T}
 use lib.ListN.{length, getD}
 use Rattle.definitions.specs.Bounded.{_and_, _is_, _isnt_, _below_, anyBelow}
-use Rattle.definitions.specs.Model.{Site, Line, Box, Model, siteAt, lineAt, boxAt, lineCount, isFree, hasChild, boundAbove}
+use Rattle.definitions.specs.Model.{Site, Line, Box, Model, siteAt, lineAt, boxAt, lineCount, isFree, hasChild, boundAbove, owner}
 use Rattle.definitions.specs.Image.{modelOf}
 use Rattle.definitions.specs.ReadModel.{usedBefore, siteFits, lineFits, treeFits, boundBefore, reachFits}
+use Rattle.model.specs.declared.Layout.{Layout}
+use Rattle.model.specs.declared.Owner.{Owner}
 use Rattle.model.specs.declared.fits.Kids.{Kids}
+use Rattle.model.specs.Records.{ownerIn}
+use Rattle.model.specs.Holds.{Holds}
 use Rattle.model.specs.Parts.{SetOf, KindsIn, LinesAt, TreesFit, lineIs, isPlain}
 
 -- k is the set of the lines below 128 that pass a test
@@ -49,3 +53,7 @@ pub record HandedDown (old : List ℕ) (l : Line) (v : ℕ) (new : List ℕ) : T
 -- what is bound strictly above each of n lines, whatever box they are of
 pub record AboveTold (image : List ℕ) (k n : ℕ) (up : List ℕ) : Type 0 where
   pub tells : (b : ℕ) → LinesAt image b k n → TreesFit image b n → (i : ℕ) → i < n → SetOf (getD up i 0) (boundAbove (boxAt (modelOf image) b) i)
+
+-- the box that binds a name, whatever image the layout is of
+pub record OwnerTold (l : Layout) (n : ℕ) (r : Owner) : Type 0 where
+  pub tells : (image : List ℕ) → Holds image l → n < 64 → ownerIn r ≡ owner (modelOf image) n

@@ -6,11 +6,10 @@ ghost use Rattle.definitions.specs.Words.{blockOf};
 ghost use Rattle.definitions.specs.Model.{isFree};
 ghost use Rattle.definitions.specs.Image.{modelOf};
 ghost use Rattle.definitions.specs.ReadModel.{usedBefore, siteFits, boundBefore, reachFits};
-ghost use Rattle.model.specs.Records.{readOf, lineIn};
+ghost use Rattle.model.specs.Records.{readOf};
 ghost use Rattle.model.specs.Parts.{SetOf, KindsIn, LinesThere, LinesAt, SitesAt, TreesFit, boxMisfit, lineFit, treeFit, subjectIn, boundIn, childIn, isPlain};
-ghost use Rattle.model.specs.Told.{KidsOf, PutAt, HandedDown, AboveTold};
+ghost use Rattle.model.specs.Told.{KidsOf};
 use crate::Answer;
-use crate::Line;
 use crate::answers::fault_if;
 use crate::fits::Kids;
 use crate::names::binder;
@@ -58,42 +57,6 @@ fn children(image: &[u8], k: usize, n: usize) -> Kids
         i += 1;
     }
     s
-}
-
-fn put(up: &mut [u64; 124], c: usize, v: u64, yes: bool)
-    requires { ⌜ length (now up) ≡ 124 ⌝ }
-    ensures { λ r. ⌜ PutAt (now (up .entry)) c v yes (now (up .exit)) ⌝ }
-{
-    if yes {
-        if c < 124 {
-            up[c] = v;
-        }
-    }
-}
-
-// Each child of a line is handed the names bound above it.
-fn hand_down(up: &mut [u64; 124], l: Line, here: u64)
-    requires { ⌜ length (now up) ≡ 124 ⌝ }
-    ensures { λ r. ⌜ HandedDown (now (up .entry)) (lineIn l) here (now (up .exit)) ⌝ }
-{
-    put(up, l.child1, here, l.op != 0);
-    put(up, l.child2, here, l.op == 1);
-}
-
-// For each of the n lines after block k, the names bound strictly above it in its box.
-pub fn above(image: &[u8], k: usize, n: usize) -> [u64; 124]
-    requires { ⌜ LinesThere (now image) k n ⌝ }
-    ensures { λ r. ⌜ AboveTold (now (image .entry)) k n r ⌝ }
-{
-    let mut up = [0u64; 124];
-    let mut i = 0;
-    while i < n {
-        let l = crate::views::line(image, k, i);
-        let here = sets::union(binder(l), up[i]);
-        hand_down(&mut up, l, here);
-        i += 1;
-    }
-    up
 }
 
 // 6 in box b, whose n sites are block k; free: the free names; used: the subjects of earlier boxes.
@@ -170,7 +133,7 @@ pub fn box_reach(image: &[u8], b: usize, k: usize, n: usize, plain: u64, bound: 
     requires bound { ⌜ SetOf bound (boundBefore (modelOf (now image)) b 0) ⌝ }
     ensures { λ r. ⌜ readOf r ≡ boxMisfit 9 n (reachFits (modelOf (now (image .entry)))) b ⌝ }
 {
-    let up = above(image, k, n);
+    let up = crate::views::above(image, k, n);
     let mut seen = bound;
     let mut i = 0;
     while i < n {

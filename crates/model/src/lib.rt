@@ -64,3 +64,9 @@ pub struct Line {
     pub child2: usize,
     pub names: u64,
 }
+
+// The box that binds a name.
+pub enum Owner {
+    Nobody,
+    Of(usize),
+}

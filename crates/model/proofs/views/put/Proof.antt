@@ -1,7 +1,7 @@
--- `model::boxes::put` meets its contract. Assumes nothing.
+-- `model::views::put` meets its contract. Assumes nothing.
 use Rattle.model.proofs.Runs.{runs}
-use Rattle.model.proofs.boxes.put.Statement.{statement}
-use Rattle.model.proofs.boxes.put.Tie as tie
+use Rattle.model.proofs.views.put.Statement.{statement}
+use Rattle.model.proofs.views.put.Tie as tie
 
 mul-up : tie.Need-mul-up
 mul-up c = search runs

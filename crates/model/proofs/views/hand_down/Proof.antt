@@ -1,7 +1,7 @@
--- `model::boxes::hand_down` meets its contract. Assumes nothing.
+-- `model::views::hand_down` meets its contract. Assumes nothing.
 use Rattle.model.proofs.Runs.{runs}
-use Rattle.model.proofs.boxes.hand_down.Statement.{statement}
-use Rattle.model.proofs.boxes.hand_down.Tie as tie
+use Rattle.model.proofs.views.hand_down.Statement.{statement}
+use Rattle.model.proofs.views.hand_down.Tie as tie
 
 put-requires : tie.Need-put-requires
 put-requires c κs = search runs

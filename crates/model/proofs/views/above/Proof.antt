@@ -1,8 +1,8 @@
--- `model::boxes::above` meets its contract. Assumes nothing.
+-- `model::views::above` meets its contract. Assumes nothing.
 use Prim.Native.Nat.{_-_}
 use Rattle.model.proofs.Runs.{Climbing, runs}
-use Rattle.model.proofs.boxes.above.Statement.{statement}
-use Rattle.model.proofs.boxes.above.Tie as tie
+use Rattle.model.proofs.views.above.Statement.{statement}
+use Rattle.model.proofs.views.above.Tie as tie
 
 abbrev Inv-loop : tie.InvT-loop
 Inv-loop image k n up₀ i₀ up i = Climbing image k n i up
