@@ -1,3 +1,5 @@
 pub mod Records
 pub mod Holds
 pub mod Parts
+pub mod Told
+pub mod Laid
