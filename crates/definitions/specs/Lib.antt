@@ -10,6 +10,7 @@ pub mod Estimate
 pub mod ReadEstimate
 pub mod Clauses
 pub mod ShutOff
+pub mod Program
 pub mod Slots
 pub mod Record
 pub mod StateRules
