@@ -1,2 +1,3 @@
 pub mod Firsts
 pub mod Faults
+pub mod Records

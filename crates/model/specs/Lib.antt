@@ -1,3 +1,4 @@
 pub mod Records
 pub mod Holds
 pub mod Parts
+pub mod Told

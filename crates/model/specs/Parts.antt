@@ -5,14 +5,14 @@ use mathlib.Core.List.{List}
 use mathlib.Core.Option.{Option, none, some}
 use Prim.Native.Nat.{ℕ, _+_, _-_, _*_, _/_, _≤_, _<_}
 use lib.ListN.{length}
-use Rattle.definitions.specs.Bounded.{_and_, _implies_, _is_, _isnt_, _below_, _upto_, allBelow, faultIf, orElse, firstBelow}
+use Rattle.definitions.specs.Bounded.{_and_, _or_, _implies_, _is_, _isnt_, _below_, _upto_, allBelow, faultIf, orElse, firstBelow}
 use Rattle.definitions.specs.Sets.{has}
 use Rattle.definitions.specs.Words.{blockOf, numberOf, kindOf, boxOf, countOf, spareOf, dataWord}
 use Rattle.definitions.specs.Check.{checkOf, checkHeld}
 use Rattle.definitions.specs.Answer.{Refusal, refusal}
-use Rattle.definitions.specs.Model.{Model, listed, kind, lineAt, boxAt}
+use Rattle.definitions.specs.Model.{Site, Line, Model, listed, kind, lineAt, boxAt, hasChild}
 use Rattle.definitions.specs.Image.{boxesOf, lineBlocks, sitesBlock, linesOf}
-use Rattle.definitions.specs.ReadModel.{clearFrom, linesFault, boxFault, leftOverFault, lineFits, treeFits}
+use Rattle.definitions.specs.ReadModel.{clearFrom, linesFault, boxFault, leftOverFault, typeFits, lineFits, treeFits}
 
 -- ---- faults
 
@@ -74,6 +74,16 @@ pub record SitesAt (image : List ℕ) (b k n : ℕ) : Type 0 where
 pub record SetOf (s : ℕ) (p : ℕ → Bool) : Type 0 where
   pub at : (n : ℕ) → n < 64 → has s n ≡ p n
 
+-- the set s with name n put in where t holds; s where t holds; the names that s lacks
+unfoldable pub putIf : ℕ → Bool → ℕ → ℕ → Bool
+putIf s t n m = has s m or (t and n is m)
+
+unfoldable pub keepIf : Bool → ℕ → ℕ → Bool
+keepIf t s m = t and has s m
+
+unfoldable pub lacks : ℕ → ℕ → Bool
+lacks s m = not (has s m)
+
 -- the listed names, and those of kinds 1, 2 and 3
 pub record KindsIn (kinds : List ℕ) (a r c e : ℕ) : Type 0 where
   pub few : length kinds ≤ 60
@@ -85,3 +95,37 @@ pub record KindsIn (kinds : List ℕ) (a r c e : ℕ) : Type 0 where
 -- two words as a set of the lines 0 to 127
 unfoldable pub lineIs : ℕ → ℕ → ℕ → Bool
 lineIs low high c = elim (c below 64) [ true ↦ has low c | false ↦ has high (c - 64) ]
+
+-- such a set with line c put in where t holds; with a line's children
+unfoldable pub putLine : ℕ → ℕ → Bool → ℕ → ℕ → Bool
+putLine low high t c d = lineIs low high d or (t and c is d)
+
+unfoldable pub putChildren : ℕ → ℕ → Line → ℕ → Bool
+putChildren low high l d = lineIs low high d or hasChild l d
+
+-- ---- the tests of a record, over tests of names
+
+unfoldable pub siteOk : (ℕ → Bool) → Bool → Site → Bool
+siteOk free used s =
+    free (s .subject) and not used and s .flag upto 1 and s .spare is 0 and typeFits free (s .subject) (s .type)
+
+-- 7, in four parts: the operation, spare byte and children; the names; the kinds of the names bound; an expose
+unfoldable pub shapeFit : Line → Bool
+shapeFit l =
+    (l .op upto 8 and l .spare is 0) and ((not (l .op isnt 0) implies l .child1 is 0) and (l .op isnt 1 implies l .child2 is 0))
+
+unfoldable pub namesFit : (ℕ → Bool) → Line → Bool
+namesFit all l =
+    ((3 upto l .op implies all (l .name1)) and (not (3 upto l .op) implies l .name1 is 0))
+    and (((l .op is 4 or l .op is 5) implies all (l .name2)) and (not (l .op is 4 or l .op is 5) implies l .name2 is 0))
+
+unfoldable pub boundFit : (ℕ → Bool) → (ℕ → Bool) → Line → Bool
+boundFit restricted received l = (l .op is 3 implies restricted (l .name1)) and (l .op is 5 implies received (l .name2))
+
+unfoldable pub exposeFit : (ℕ → Bool) → (ℕ → Bool) → Line → Bool
+exposeFit all exposed l =
+    (l .op is 6 implies exposed (l .name1) and typeFits all (l .name1) (l .type)) and (l .op isnt 6 implies l .type is 0)
+
+unfoldable pub lineOk : (ℕ → Bool) → (ℕ → Bool) → (ℕ → Bool) → (ℕ → Bool) → Line → Bool
+lineOk all restricted received exposed l =
+    shapeFit l and namesFit all l and boundFit restricted received l and exposeFit all exposed l

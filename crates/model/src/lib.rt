@@ -3,6 +3,8 @@ ghost use mathlib.Core.Path.{_≡_};
 use sets::NameNo;
 
 mod answers;
+mod fits;
+mod names;
 mod order;
 pub mod views;
 

@@ -1,0 +1,37 @@
+-- `model::fits::expose_fits` meets its contract. Assumes nothing.
+use Rattle.model.proofs.Records.{records}
+use Rattle.model.proofs.fits.expose_fits.Statement.{statement}
+use Rattle.model.proofs.fits.expose_fits.Tie as tie
+
+has-requires : tie.Need-has-requires
+has-requires c κs = search records
+
+type-fits-requires : tie.Need-type-fits-requires
+type-fits-requires c κs = search records
+
+both-requires : tie.Need-both-requires
+both-requires c κs = search records
+
+implies-requires : tie.Need-implies-requires
+implies-requires c κs = search records
+
+implies-requires-2 : tie.Need-implies-requires-2
+implies-requires-2 c κs = search records
+
+both-requires-2 : tie.Need-both-requires-2
+both-requires-2 c κs = search records
+
+returns : tie.Need-returns
+returns c = search records
+
+pub expose-fits-spec : {M : Type 1} → statement M
+expose-fits-spec =
+    tie.close
+    (tie.spec
+    has-requires
+    type-fits-requires
+    both-requires
+    implies-requires
+    implies-requires-2
+    both-requires-2
+    returns)
