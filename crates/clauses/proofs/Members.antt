@@ -2,7 +2,7 @@
 use mathlib.Core.Path.{_≡_, refl, sym, ap, ap₂, subst, _∙_}
 use mathlib.Core.Bool.{Bool, true, false, not}
 use mathlib.Core.List.{List}
-use Prim.Native.Nat.{ℕ, _+_, _-_, _*_, _^_, _≤_, _<_}
+use Prim.Native.Nat.{ℕ, _+_, _-_, _*_, _≤_, _<_}
 use native.Mathlib.Nat.{not-suc-le-zero}
 use native.Mathlib.Omega.{arith}
 use native.Mathlib.Decide.{ℕ-discrete, decLt}
@@ -16,13 +16,13 @@ use Rattle.definitions.specs.Sets.{has, forEach, forSome, within, meets, lowest
 use Rattle.definitions.specs.ShutOff as shut
 use Rattle.definitions.specs.Estimate.{Estimate, estimateOf}
 use Rattle.definitions.proofs.Bounded.{and-iff, implies-iff, is-iff, isnt-iff, upto-iff, true-of, of-true, false-of, not-false}
-use Rattle.definitions.proofs.Sets.{IsLowest, lowest-is, lowest-none, has-below, forEach-iff, forSome-iff}
+use Rattle.definitions.proofs.Sets.{IsLowest, lowest-is, lowest-none, forEach-iff, forSome-iff}
 use Rattle.definitions.proofs.Loops.{fails, holds}
 use Rattle.sets.specs.declared.Lowest.{Lowest}
 use Rattle.sets.specs.declared.Lowest.the-variants.{NoMember, Member}
 use Rattle.sets.specs.declared.NameNo.{NameNo}
 use Rattle.sets.specs.Lowest.{lowestOf}
-use Rattle.clauses.specs.Asks.{Small, typedIn, facesIn, linkedIn}
+use Rattle.clauses.specs.Asks.{Few, Small, typedIn, facesIn, linkedIn}
 
 -- ---- the next member
 
@@ -33,8 +33,8 @@ module _ (s : ℕ) (p : ℕ → Bool) (r : Lowest) (a : NameNo) (q : lowestOf r 
   pub member-64 : a .0 < 64
   member-64 = met .below
 
-  pub member-62 : s < 2 ^ 60 → a .0 < 62
-  member-62 h = let l = has-below 60 s (a .0) h (met .member) in omega arith
+  pub member-62 : Few s → a .0 < 62
+  member-62 f = let l = f .below (a .0) (met .below) (met .member) in omega arith
 
   pub next-fits : Fits w8 (a .0 + 1)
   next-fits = record { fits = omega (arith, met .below) }
@@ -143,10 +143,10 @@ linked-as e h k s t r g f q = g ∙ ap₂ (λ (x y : ℕ). forSome x (λ a. forS
 -- ---- the sets that are walked hold no name past 60
 
 module _ (image : List ℕ) (boxes n s : ℕ) (small : Small image boxes) where
-  pub small-rho : n < 62 → s ≡ estimateOf image .rho n → s < 2 ^ 60
+  pub small-rho : n < 62 → s ≡ estimateOf image .rho n → Few s
   small-rho h e = rw e (small .rho n h)
 
-  pub small-shown : n < boxes → s ≡ estimateOf image .shown n → s < 2 ^ 60
+  pub small-shown : n < boxes → s ≡ estimateOf image .shown n → Few s
   small-shown h e = rw e (small .shown n h)
 
 pub ruleset walks = (needs, fails, holds, member-64, member-62, next-fits, next-less, walked-start, walked-past, walked-end, walked-turn, walked-stop, missed-start, missed-past, missed-end, missed-turn, missed-stop, has-as, within-as, meets-as, faces-as, linked-as, small-rho, small-shown)

@@ -34,12 +34,13 @@ within-union : (v w u : ℕ) → UnionOf v w u → (q : ℕ) → within v q ≡ 
 within-union v w u e q =
     same-test (within v q) (within w q and within u q)
     (λ t. let f = within-iff v q .0 t in
-        and-iff (within w q) (within u q) .1
-        (within-iff w q .1 (λ n l h. f n l (of-true (e n ∙ true-of (has w n or has u n) (or-iff (has w n) (has u n) .1 (inl h))))),
-         within-iff u q .1 (λ n l h. f n l (of-true (e n ∙ true-of (has w n or has u n) (or-iff (has w n) (has u n) .1 (inr h)))))))
+    and-iff (within w q) (within u q) .1 (
+      within-iff w q .1 (λ n l h. f n l (of-true (e n ∙ true-of (has w n or has u n) (or-iff (has w n) (has u n) .1 (inl h))))),
+      within-iff u q .1 (λ n l h. f n l (of-true (e n ∙ true-of (has w n or has u n) (or-iff (has w n) (has u n) .1 (inr h))))),
+    ))
     (λ t. let p = and-iff (within w q) (within u q) .0 t in
-        within-iff v q .1
-        (λ n l h. ⊎-elim (within-iff w q .0 (p .0) n l) (within-iff u q .0 (p .1) n l) (or-iff (has w n) (has u n) .0 (of-true (sym (e n) ∙ true-of (has v n) h)))))
+    within-iff v q .1
+    (λ n l h. ⊎-elim (within-iff w q .0 (p .0) n l) (within-iff u q .0 (p .1) n l) (or-iff (has w n) (has u n) .0 (of-true (sym (e n) ∙ true-of (has v n) h)))))
 
 within-none : (q : ℕ) → within 0 q ≡ true
 within-none q = true-of (within 0 q) (within-iff 0 q .1 (λ n l t. absurd (not-false (has-none n) t)))
@@ -149,9 +150,9 @@ through-end e boxes b x k w t l = record { same = λ q. t .so-far q ∙ ap (λ (
 
 -- ---- the table
 
-pub shown-62 : (image : List ℕ) (boxes b s a : ℕ) (r : Bool) → Small image boxes → b < boxes → r ≡ has s a → s ≡ estimateOf image .shown b → r ≡ true → a < 62
-shown-62 image boxes b s a r small h e q t =
-    let l = has-below 60 s a (rw q (small .shown b h)) (of-true (sym e ∙ t)) in omega arith
+pub shown-62 : (image : List ℕ) (boxes b s a : ℕ) (r : Bool) → Small image boxes → b < boxes → a < 64 → r ≡ has s a → s ≡ estimateOf image .shown b → r ≡ true → a < 62
+shown-62 image boxes b s a r small h l e q t =
+    let m = small .shown b h .below a l (of-true (sym (ap (λ (z : ℕ). has z a) q) ∙ sym e ∙ t)) in omega arith
 
 module _ (e : Estimate) (boxes b a s : ℕ) (r : Bool) (er : r ≡ has s a) (es : s ≡ e .shown b) where
   pub name-in : (w x : ℕ) → r ≡ true → Asked w (boxesAsk e boxes b x) → x ≡ e .eps b a → Asked w (nameAsk e boxes b a)

@@ -2,29 +2,49 @@
 use mathlib.Core.Path.{_≡_}
 use mathlib.Core.Bool.{Bool, true, false}
 use mathlib.Core.List.{List}
-use Prim.Native.Nat.{ℕ, _+_, _*_, _^_, _≤_, _<_}
+use Prim.Native.Nat.{ℕ, _+_, _*_, _≤_, _<_}
+use lib.Dec.{T}
 use lib.ListN.{length, getD}
 use Rattle.definitions.specs.Bounded.{_and_, _implies_, _is_, _isnt_, allBelow}
 use Rattle.definitions.specs.Sets.{has, forEach, forSome, within, meets}
 use Rattle.definitions.specs.Estimate.{Estimate, estimateOf}
 
+-- a set of names below 60
+pub record Few (s : ℕ) : Type 0 where
+  pub below : (n : ℕ) → n < 64 → T (has s n) → n < 60
+
 -- the image of an estimate for so many boxes: its blocks are there, and the sets whose members are walked hold no name past 60
 pub record Small (image : List ℕ) (boxes : ℕ) : Type 0 where
   pub there : 512 * (1 + 2 * boxes) ≤ length image
   pub few : boxes ≤ 8
-  pub rho : (n : ℕ) → n < 62 → estimateOf image .rho n < 2 ^ 60
-  pub shown : (b : ℕ) → b < boxes → estimateOf image .shown b < 2 ^ 60
+  pub rho : (n : ℕ) → n < 62 → Few (estimateOf image .rho n)
+  pub shown : (b : ℕ) → b < boxes → Few (estimateOf image .shown b)
 
--- tests at each member of a set: of clause 7, rho(g) within x for each g; of a link, a type x that shares a name with one of box k's,
--- and two sets of box h's and box k's names
+-- ---- tests at each member of a set
+
+-- clause 4: q within kap(b,a) for each a in s. Clause 5: kap(b,a) within q
+unfoldable pub sentIn : Estimate → ℕ → ℕ → ℕ → Bool
+sentIn e b s q = forEach s (λ a. within q (e .kap b a))
+
+unfoldable pub receivedIn : Estimate → ℕ → ℕ → ℕ → Bool
+receivedIn e b s q = forEach s (λ a. within (e .kap b a) q)
+
+-- clause 6: what each a in s asks, as a table has it in word 64 b + a, within q
+unfoldable pub crossedIn : List ℕ → ℕ → ℕ → ℕ → Bool
+crossedIn t b s q = forEach s (λ a. within (getD t (64 * b + a) 0) q)
+
+-- clause 7: rho(g) within x for each g in s
 unfoldable pub typedIn : Estimate → ℕ → ℕ → Bool
 typedIn e s x = forEach s (λ g. within (e .rho g) x)
 
+-- a link: a type x that shares a name with one of box k's on a name of s; two sets of box h's and box k's names
 unfoldable pub facesIn : Estimate → ℕ → ℕ → ℕ → Bool
 facesIn e x k s = forSome s (λ c. meets x (e .eps k c))
 
 unfoldable pub linkedIn : Estimate → ℕ → ℕ → ℕ → ℕ → Bool
 linkedIn e h k s t = forSome s (λ a. facesIn e (e .eps h a) k t)
+
+-- ---- what clause 6 asks, gathered
 
 -- w is the union of what a test asks a set to hold: the test passes at a set exactly when the set holds w
 pub record Asked (w : ℕ) (p : ℕ → Bool) : Type 0 where

@@ -1,10 +1,11 @@
 // What clause 6 asks of rho(q), gathered once for each box and name: a set holds each of several exactly when it holds their union.
 ghost use mathlib.Core.Path.{_≡_};
-ghost use Prim.Native.Nat.{_+_, _*_, _/_, _%_, _^_, _<_, _≤_};
+ghost use Prim.Native.Nat.{_+_, _*_, _/_, _%_, _<_, _≤_};
 ghost use lib.ListN.{length};
 ghost use Rattle.definitions.specs.Estimate.{estimateOf};
-ghost use Rattle.clauses.specs.Asks.{Small, Asked, Joined, faceAsk, facesAsk, otherAsk, boxesAsk, nameAsk, Needs};
-use sets::{Lowest, NameNo};
+ghost use Rattle.clauses.specs.Asks.{Few, Small, Asked, Joined, faceAsk, facesAsk, otherAsk, boxesAsk, nameAsk, Needs};
+use sets::Lowest;
+use sets::NameNo;
 
 // What is gathered so far, with what a site with the type x asks where it faces name c of box k.
 fn face(estimate: &[u8], x: u64, k: usize, c: NameNo, w: u64) -> u64
@@ -20,7 +21,7 @@ fn face(estimate: &[u8], x: u64, k: usize, c: NameNo, w: u64) -> u64
 
 // Where it faces each name of box k in s, which is what the box shows.
 fn faced(estimate: &[u8], x: u64, k: usize, s: u64) -> u64
-    requires { ⌜ (512 * (3 + 2 * k) ≤ length (now estimate)) × (s < 2 ^ 60) ⌝ }
+    requires { ⌜ (512 * (3 + 2 * k) ≤ length (now estimate)) × Few s ⌝ }
     ensures { λ r. ⌜ Asked r (facesAsk (estimateOf (now (estimate .entry))) x k s) ⌝ }
 {
     let mut w: u64 = 0;
@@ -63,7 +64,7 @@ fn others(estimate: &[u8], boxes: usize, b: usize, x: u64) -> u64
 
 // What name a of box b asks: nothing where it is not shown.
 fn need(estimate: &[u8], boxes: usize, b: usize, a: NameNo) -> u64
-    requires { ⌜ Small (now estimate) boxes × (b < boxes) ⌝ }
+    requires { ⌜ Small (now estimate) boxes × (b < boxes) × (a .0 < 64) ⌝ }
     ensures { λ r. ⌜ Asked r (nameAsk (estimateOf (now (estimate .entry))) boxes b (a .0)) ⌝ }
 {
     if sets::has(estimate::shown(estimate, b), a) {

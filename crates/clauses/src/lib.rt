@@ -1,11 +1,11 @@
 // The clauses' tests at one name, site or line, over an estimate that has been read, names' numbers and sets of them.
 ghost use mathlib.Core.Path.{_≡_};
-ghost use Prim.Native.Nat.{_+_, _*_, _^_, _<_, _≤_};
+ghost use Prim.Native.Nat.{_+_, _*_, _<_, _≤_};
 ghost use lib.ListN.{length};
 ghost use Rattle.definitions.specs.Bounded.{_and_, _implies_, _is_, _isnt_};
 ghost use Rattle.definitions.specs.Sets as names;
 ghost use Rattle.definitions.specs.Estimate.{estimateOf};
-ghost use Rattle.clauses.specs.Asks.{typedIn};
+ghost use Rattle.clauses.specs.Asks.{Few, typedIn};
 use sets::NameNo;
 
 pub mod gather;
@@ -57,7 +57,7 @@ fn own_shown(estimate: &[u8], b: usize, n: NameNo) -> bool
 
 // Clause 7: and rho(g) within eps(b, n) for each g of the type.
 pub fn exposed(estimate: &[u8], b: usize, n: NameNo, set: u64) -> bool
-    requires { ⌜ (512 * (2 + 2 * b) ≤ length (now estimate)) × (n .0 < 62) × (set < 2 ^ 60) ⌝ }
+    requires { ⌜ (512 * (2 + 2 * b) ≤ length (now estimate)) × (n .0 < 62) × Few set ⌝ }
     ensures { λ r. ⌜ r ≡ (names.has (estimateOf (now (estimate .entry)) .rho (n .0)) (n .0) and names.has (estimateOf (now (estimate .entry)) .shown b) (n .0) and typedIn (estimateOf (now (estimate .entry))) set (estimateOf (now (estimate .entry)) .eps b (n .0))) ⌝ }
 {
     if own_shown(estimate, b, n) {

@@ -6,6 +6,7 @@ pub mod Arrays
 pub mod Faults
 pub mod Loops
 pub mod BlockFault
+pub mod ReadEstimate
 pub mod Tree
 pub mod Valid
 pub mod Image

@@ -1,6 +1,5 @@
 -- `clauses::hidden` meets its contract: one test of two sets. Assumes nothing.
 use Rattle.clauses.proofs.Members.{walks}
-use Rattle.clauses.proofs.Members.{walks}
 use Rattle.clauses.proofs.hidden.Statement.{statement}
 use Rattle.clauses.proofs.hidden.Tie as tie
 

@@ -1,6 +1,5 @@
 -- `clauses::own` meets its contract: one test of two sets. Assumes nothing.
 use Rattle.clauses.proofs.Members.{walks}
-use Rattle.clauses.proofs.Members.{walks}
 use Rattle.clauses.proofs.own.Statement.{statement}
 use Rattle.clauses.proofs.own.Tie as tie
 

@@ -1,6 +1,5 @@
 -- `clauses::shown` meets its contract: one test of two sets. Assumes nothing.
 use Rattle.clauses.proofs.Members.{walks}
-use Rattle.clauses.proofs.Members.{walks}
 use Rattle.clauses.proofs.shown.Statement.{statement}
 use Rattle.clauses.proofs.shown.Tie as tie
 

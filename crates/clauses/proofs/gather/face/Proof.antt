@@ -1,6 +1,5 @@
 -- `clauses::gather::face` meets its contract: what is asked is joined where it is asked. Assumes nothing.
 use Rattle.clauses.proofs.Unions.{gathers}
-use Rattle.clauses.proofs.Unions.{gathers}
 use Rattle.clauses.proofs.gather.face.Statement.{statement}
 use Rattle.clauses.proofs.gather.face.Tie as tie
 

@@ -3,10 +3,6 @@ use Prim.Native.Nat.{_-_}
 use Rattle.definitions.specs.Estimate.{estimateOf}
 use Rattle.clauses.specs.Asks.{faceAsk}
 use Rattle.clauses.proofs.Unions.{Gathering, gathers}
-use Prim.Native.Nat.{_-_}
-use Rattle.definitions.specs.Estimate.{estimateOf}
-use Rattle.clauses.specs.Asks.{faceAsk}
-use Rattle.clauses.proofs.Unions.{Gathering, gathers}
 use Rattle.clauses.proofs.gather.faced.Statement.{statement}
 use Rattle.clauses.proofs.gather.faced.Tie as tie
 

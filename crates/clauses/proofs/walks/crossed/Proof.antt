@@ -2,10 +2,7 @@
 use Prim.Native.Nat.{_+_, _-_, _*_}
 use lib.ListN.{getD}
 use Rattle.definitions.specs.Sets.{within}
-use Rattle.clauses.proofs.Members.{Walked, walks}
-use Prim.Native.Nat.{_+_, _-_, _*_}
-use lib.ListN.{getD}
-use Rattle.definitions.specs.Sets.{within}
+use Rattle.clauses.specs.Asks.{crossedIn}
 use Rattle.clauses.proofs.Members.{Walked, walks}
 use Rattle.clauses.proofs.walks.crossed.Statement.{statement}
 use Rattle.clauses.proofs.walks.crossed.Tie as tie
@@ -29,6 +26,7 @@ enum-told : tie.Need-enum-told Inv-loop μ-loop
 enum-told c = search walks
 
 returns : tie.Need-returns Inv-loop μ-loop
+unfolding crossedIn
 returns c = search walks
 
 asked-requires : tie.Need-asked-requires Inv-loop μ-loop
@@ -38,6 +36,7 @@ within-requires : tie.Need-within-requires Inv-loop μ-loop
 within-requires c κs = search walks
 
 returns-2 : tie.Need-returns-2 Inv-loop μ-loop
+unfolding crossedIn
 returns-2 c = search walks
 
 add-from : tie.Need-add-from Inv-loop μ-loop
@@ -50,6 +49,7 @@ loop-again : tie.Need-loop-again Inv-loop μ-loop
 loop-again c = search walks
 
 returns-3 : tie.Need-returns-3 Inv-loop μ-loop
+unfolding crossedIn
 returns-3 c = search walks
 
 pub crossed-spec : {M : Type 1} → statement M
