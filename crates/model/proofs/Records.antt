@@ -17,7 +17,7 @@ use Rattle.definitions.proofs.Bounded.{tests, and-iff, or-iff, implies-iff, is-
 use Rattle.definitions.proofs.Faults.{not-iff}
 use Rattle.definitions.proofs.Sets.{has-none, has-above, has-not, or-false, forEach-iff, within-iff, meets-iff}
 use Rattle.model.specs.declared.fits.Kids.{Kids}
-use Rattle.model.specs.Parts.{SetOf, KindsIn, putIf, keepIf, lacks, lineIs, putLine, putChildren, siteOk, shapeFit, namesFit, boundFit, exposeFit, lineOk}
+use Rattle.model.specs.Parts.{SetOf, KindsIn, isPlain, putIf, keepIf, lacks, lineIs, putLine, putChildren, siteOk, shapeFit, namesFit, boundFit, exposeFit, lineOk}
 use Rattle.model.specs.Told.{KidsOf, SiteTold, LineTold, ChildTold, TreeTold, ReachTold}
 
 -- ---- sets by a test
@@ -338,7 +338,7 @@ tree-told l i n seen all f g s h kid x y z r tf tg es eh ek ex ey ez er = record
 
 pub reach-told : (l : Line) (plain above bound us v bs : ℕ) (w mt r : Bool) → SetOf us (uses l) → ((n : ℕ) → has v n ≡ (has plain n or has above n))
     → w ≡ within us v → SetOf bs (binds l) → mt ≡ meets bs bound → r ≡ (w and not mt) → ReachTold l plain above bound r
-unfolding reachFits
+unfolding reachFits isPlain
 reach-told l plain above bound us v bs w mt r u un ew bi em er = record {
   tells = λ m b i sp sa sb e.
       let kinds = m .kinds in

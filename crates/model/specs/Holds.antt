@@ -22,7 +22,8 @@ pub record Holds (image : List ℕ) (l : Layout) : Type 0 where
   pub sites : (b : ℕ) → b < boxesOf image → getD (l .sites) b 0 ≡ countOf (blockOf image (sitesBlock image b))
   pub lines : (b : ℕ) → b < boxesOf image → getD (l .lines) b 0 ≡ linesOf image b
   pub bound : (b : ℕ) → b < boxesOf image → (n : ℕ) → n < 64 → has (getD (l .bound) b 0) n ≡ bindsIn (boxOfImage image b) n
-  -- the names of each kind
+  -- the listed names, and those of each kind
+  pub listed : (n : ℕ) → n < 64 → has (l .listed) n ≡ (n below nameCount image)
   pub free : OfKind image 0 (l .free)
   pub restricted : OfKind image 1 (l .restricted)
   pub received : OfKind image 2 (l .received)

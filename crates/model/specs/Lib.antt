@@ -2,3 +2,4 @@ pub mod Records
 pub mod Holds
 pub mod Parts
 pub mod Told
+pub mod Laid

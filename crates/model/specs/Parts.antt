@@ -3,16 +3,17 @@ use mathlib.Core.Path.{_≡_}
 use mathlib.Core.Bool.{Bool, true, false, not}
 use mathlib.Core.List.{List}
 use mathlib.Core.Option.{Option, none, some}
-use Prim.Native.Nat.{ℕ, _+_, _-_, _*_, _/_, _≤_, _<_}
+use Prim.Native.Nat.{ℕ, _+_, _-_, _*_, _/_, _%_, _≤_, _<_}
+use lib.Dec.{T}
 use lib.ListN.{length}
-use Rattle.definitions.specs.Bounded.{_and_, _or_, _implies_, _is_, _isnt_, _below_, _upto_, allBelow, faultIf, orElse, firstBelow}
+use Rattle.definitions.specs.Bounded.{_and_, _or_, _implies_, _is_, _isnt_, _below_, _upto_, allBelow, anyBelow, faultIf, orElse, firstBelow}
 use Rattle.definitions.specs.Sets.{has}
 use Rattle.definitions.specs.Words.{blockOf, numberOf, kindOf, boxOf, countOf, spareOf, dataWord}
 use Rattle.definitions.specs.Check.{checkOf, checkHeld}
 use Rattle.definitions.specs.Answer.{Refusal, refusal}
-use Rattle.definitions.specs.Model.{Site, Line, Model, listed, kind, lineAt, boxAt, hasChild}
-use Rattle.definitions.specs.Image.{boxesOf, lineBlocks, sitesBlock, linesOf}
-use Rattle.definitions.specs.ReadModel.{clearFrom, linesFault, boxFault, leftOverFault, typeFits, lineFits, treeFits}
+use Rattle.definitions.specs.Model.{Site, Line, Model, listed, kind, lineAt, boxAt, siteCount, lineCount, hasChild, binds}
+use Rattle.definitions.specs.Image.{siteRecord, lineRecord, boxesOf, lineBlocks, sitesBlock, linesOf, modelOf}
+use Rattle.definitions.specs.ReadModel.{clearFrom, linesFault, boxFault, leftOverFault, typeFits, siteFits, lineFits, treeFits, reachFits, firstMisfit}
 
 -- ---- faults
 
@@ -50,15 +51,36 @@ lineFit m b i = lineFits (m .kinds) (lineAt (boxAt m b) i)
 abbrev pub treeFit : Model → ℕ → ℕ → Bool
 treeFit m b i = treeFits (boxAt m b) i
 
+-- 6 to 9, each over the whole model
+unfoldable pub sitesMisfit : Model → Option Refusal
+sitesMisfit m = firstMisfit 6 m siteCount (siteFits m)
+
+unfoldable pub linesMisfit : Model → Option Refusal
+linesMisfit m = firstMisfit 7 m lineCount (lineFit m)
+
+unfoldable pub treesMisfit : Model → Option Refusal
+treesMisfit m = firstMisfit 8 m lineCount (treeFit m)
+
+unfoldable pub reachMisfit : Model → Option Refusal
+reachMisfit m = firstMisfit 9 m lineCount (reachFits m)
+
 -- ---- where a box stands
+
+-- the image holds n lines after block k
+pub record LinesThere (image : List ℕ) (k n : ℕ) : Type 0 where
+  pub few : n ≤ 124
+  pub there : (i : ℕ) → i < n → 512 * (k + 1 + i / 31 + 1) ≤ length image
 
 -- box b has n lines, and k is the block of its sites
 pub record LinesAt (image : List ℕ) (b k n : ℕ) : Type 0 where
   pub inside : b < boxesOf image
   pub at : k ≡ sitesBlock image b
   pub lines : n ≡ linesOf image b
-  pub few : n ≤ 124
-  pub there : (i : ℕ) → i < n → 512 * (k + 1 + i / 31 + 1) ≤ length image
+  pub held : LinesThere image k n
+
+-- each line of box b fits its tree
+pub record TreesFit (image : List ℕ) (b n : ℕ) : Type 0 where
+  pub fits : (i : ℕ) → i < n → T (treeFits (boxAt (modelOf image) b) i)
 
 -- box b has n sites, in block k
 pub record SitesAt (image : List ℕ) (b k n : ℕ) : Type 0 where
@@ -102,6 +124,37 @@ putLine low high t c d = lineIs low high d or (t and c is d)
 
 unfoldable pub putChildren : ℕ → ℕ → Line → ℕ → Bool
 putChildren low high l d = lineIs low high d or hasChild l d
+
+-- ---- what a run over records has seen, of the first n of them
+
+-- line i after block k
+abbrev pub lineOf : List ℕ → ℕ → ℕ → Line
+lineOf image k i = lineRecord (blockOf image (k + 1 + i / 31)) (i % 31)
+
+-- some site has subject s; some line binds m; some line has line c as a child
+unfoldable pub subjectIn : List ℕ → ℕ → ℕ → Bool
+subjectIn block n s = anyBelow n (λ j. siteRecord block j .subject is s)
+
+unfoldable pub boundIn : List ℕ → ℕ → ℕ → ℕ → Bool
+boundIn image k n m = anyBelow n (λ i. binds (lineOf image k i) m)
+
+unfoldable pub childIn : List ℕ → ℕ → ℕ → ℕ → Bool
+childIn image k n c = anyBelow n (λ i. hasChild (lineOf image k i) c)
+
+-- the name m is one of the first n, and of kind k
+unfoldable pub kindIn : List ℕ → ℕ → ℕ → ℕ → Bool
+kindIn block k n m = m below n and dataWord block (2 + m) is k
+
+unfoldable pub isBelow : ℕ → ℕ → Bool
+isBelow n m = m below n
+
+-- the name m needs no binding
+unfoldable pub isPlain : List ℕ → ℕ → Bool
+isPlain kinds m = kind kinds m is 0
+
+-- how many lines follow block k
+unfoldable pub lineTotal : List ℕ → ℕ → ℕ
+lineTotal image k = let n = lineBlocks 4 image (k + 1) in 31 * (n - 1) + countOf (blockOf image (k + n))
 
 -- ---- the tests of a record, over tests of names
 

@@ -1,9 +1,12 @@
 -- What the code's structs say: a site, a line, an answer, each as the definitions have it. Assumes nothing.
 use mathlib.Core.Option.{Option, none, some}
+use Prim.Native.Nat.{ℕ}
 use Rattle.definitions.specs.Answer as answers
 use Rattle.definitions.specs.Model as model
 use Rattle.model.specs.declared.Answer.{Answer}
 use Rattle.model.specs.declared.Answer.the-variants.{Held, Refused}
+use Rattle.model.specs.declared.Owner.{Owner}
+use Rattle.model.specs.declared.Owner.the-variants.{Nobody, Of}
 use Rattle.model.specs.declared.Site.{Site}
 use Rattle.model.specs.declared.Line.{Line}
 
@@ -24,3 +27,7 @@ lineIn l = record {
   child2 = l .child2;
   type = l .names;
 }
+
+abbrev pub ownerIn : Owner → Option ℕ
+ownerIn Nobody = none
+ownerIn (Of b) = some b

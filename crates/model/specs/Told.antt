@@ -2,12 +2,19 @@
 use mathlib.Core.Path.{_≡_}
 use mathlib.Core.Bool.{Bool, not}
 use Prim.Native.Nat.{ℕ, _≤_, _<_}
-use lib.ListN.{length}
-use Rattle.definitions.specs.Bounded.{_and_, _is_, _below_, anyBelow}
-use Rattle.definitions.specs.Model.{Site, Line, Box, Model, siteAt, lineAt, boxAt, lineCount, isFree, kind, hasChild, boundAbove}
+use mathlib.Core.List.{List}
+use lib.Dec.{T}
+use lib.ListN.{length, getD}
+use Rattle.definitions.specs.Bounded.{_and_, _is_, _isnt_, _below_, anyBelow}
+use Rattle.definitions.specs.Model.{Site, Line, Box, Model, siteAt, lineAt, boxAt, lineCount, isFree, hasChild, boundAbove, owner}
+use Rattle.definitions.specs.Image.{modelOf}
 use Rattle.definitions.specs.ReadModel.{usedBefore, siteFits, lineFits, treeFits, boundBefore, reachFits}
+use Rattle.model.specs.declared.Layout.{Layout}
+use Rattle.model.specs.declared.Owner.{Owner}
 use Rattle.model.specs.declared.fits.Kids.{Kids}
-use Rattle.model.specs.Parts.{SetOf, KindsIn, lineIs}
+use Rattle.model.specs.Records.{ownerIn}
+use Rattle.model.specs.Holds.{Holds}
+use Rattle.model.specs.Parts.{SetOf, KindsIn, LinesAt, TreesFit, lineIs, isPlain}
 
 -- k is the set of the lines below 128 that pass a test
 pub record KidsOf (k : Kids) (p : ℕ → Bool) : Type 0 where
@@ -28,5 +35,25 @@ pub record TreeTold (l : Line) (i n : ℕ) (seen all : Kids) (r : Bool) : Type 0
       → KidsOf all (λ c. anyBelow n (λ j. hasChild (lineAt x j) c)) → l ≡ lineAt x i → r ≡ treeFits x i
 
 pub record ReachTold (l : Line) (plain above bound : ℕ) (r : Bool) : Type 0 where
-  pub tells : (m : Model) (b i : ℕ) → SetOf plain (λ n. kind (m .kinds) n is 0) → SetOf above (boundAbove (boxAt m b) i)
+  pub tells : (m : Model) (b i : ℕ) → SetOf plain (isPlain (m .kinds)) → SetOf above (boundAbove (boxAt m b) i)
       → SetOf bound (boundBefore m b i) → l ≡ lineAt (boxAt m b) i → r ≡ reachFits m b i
+
+-- a list with v put at place c where t holds
+pub record PutAt (old : List ℕ) (c v : ℕ) (t : Bool) (new : List ℕ) : Type 0 where
+  pub long : length new ≡ length old
+  pub put : T t → c < 124 → getD new c 0 ≡ v
+  pub kept : (d : ℕ) → (T t → c ≡ d → ⊥) → getD new d 0 ≡ getD old d 0
+
+-- a list with v put at the places of a line's children
+pub record HandedDown (old : List ℕ) (l : Line) (v : ℕ) (new : List ℕ) : Type 0 where
+  pub between : List ℕ
+  pub first : PutAt old (l .child1) v (l .op isnt 0) between
+  pub second : PutAt between (l .child2) v (l .op is 1) new
+
+-- what is bound strictly above each of n lines, whatever box they are of
+pub record AboveTold (image : List ℕ) (k n : ℕ) (up : List ℕ) : Type 0 where
+  pub tells : (b : ℕ) → LinesAt image b k n → TreesFit image b n → (i : ℕ) → i < n → SetOf (getD up i 0) (boundAbove (boxAt (modelOf image) b) i)
+
+-- the box that binds a name, whatever image the layout is of
+pub record OwnerTold (l : Layout) (n : ℕ) (r : Owner) : Type 0 where
+  pub tells : (image : List ℕ) → Holds image l → n < 64 → ownerIn r ≡ owner (modelOf image) n

@@ -3,9 +3,13 @@ ghost use mathlib.Core.Path.{_≡_};
 use sets::NameNo;
 
 mod answers;
+mod boxes;
 mod fits;
+mod laying;
 mod names;
 mod order;
+mod passes;
+pub mod reading;
 pub mod views;
 
 // The paper's refusal: its number, and its two places.
@@ -21,7 +25,7 @@ pub enum Answer {
 }
 
 // Where a model's parts stand. For box b: the block of its sites, how many sites and lines it has, and the names that its lines bind.
-// Then the names of each kind.
+// Then the listed names, and those of each kind.
 pub struct Layout {
     pub names: usize,
     pub boxes: usize,
@@ -29,6 +33,7 @@ pub struct Layout {
     pub sites: [usize; 8],
     pub lines: [usize; 8],
     pub bound: [u64; 8],
+    pub listed: u64,
     pub free: u64,
     pub restricted: u64,
     pub received: u64,
@@ -58,4 +63,10 @@ pub struct Line {
     pub child1: usize,
     pub child2: usize,
     pub names: u64,
+}
+
+// The box that binds a name.
+pub enum Owner {
+    Nobody,
+    Of(usize),
 }

@@ -1,0 +1,148 @@
+// Runs over the records of one box: what its sites and lines say together, and its first record that does not fit.
+ghost use mathlib.Core.Path.{_≡_};
+ghost use Prim.Native.Nat.{_+_, _*_, _<_, _≤_};
+ghost use lib.ListN.{length};
+ghost use Rattle.definitions.specs.Words.{blockOf};
+ghost use Rattle.definitions.specs.Model.{isFree};
+ghost use Rattle.definitions.specs.Image.{modelOf};
+ghost use Rattle.definitions.specs.ReadModel.{usedBefore, siteFits, boundBefore, reachFits};
+ghost use Rattle.model.specs.Records.{readOf};
+ghost use Rattle.model.specs.Parts.{SetOf, KindsIn, LinesThere, LinesAt, SitesAt, TreesFit, boxMisfit, lineFit, treeFit, subjectIn, boundIn, childIn, isPlain};
+ghost use Rattle.model.specs.Told.{KidsOf};
+use crate::Answer;
+use crate::answers::fault_if;
+use crate::fits::Kids;
+use crate::names::binder;
+
+// The subjects of the first n sites of block k.
+pub fn subjects(image: &[u8], k: usize, n: usize) -> u64
+    requires { ⌜ (512 * (k + 1) ≤ length (now image)) × (n ≤ 31) ⌝ }
+    ensures { λ r. ⌜ SetOf r (subjectIn (blockOf (now (image .entry)) k) n) ⌝ }
+{
+    let mut s: u64 = 0;
+    let mut i = 0;
+    while i < n {
+        let site = crate::views::site(image, k, i);
+        s = sets::with(s, site.subject);
+        i += 1;
+    }
+    s
+}
+
+// The names that the n lines after block k bind.
+pub fn bound_by(image: &[u8], k: usize, n: usize) -> u64
+    requires { ⌜ LinesThere (now image) k n ⌝ }
+    ensures { λ r. ⌜ SetOf r (boundIn (now (image .entry)) k n) ⌝ }
+{
+    let mut s: u64 = 0;
+    let mut i = 0;
+    while i < n {
+        let l = crate::views::line(image, k, i);
+        s = sets::union(s, binder(l));
+        i += 1;
+    }
+    s
+}
+
+// The lines that the n lines after block k have as children.
+fn children(image: &[u8], k: usize, n: usize) -> Kids
+    requires { ⌜ LinesThere (now image) k n ⌝ }
+    ensures { λ r. ⌜ KidsOf r (childIn (now (image .entry)) k n) ⌝ }
+{
+    let mut s = Kids { low: 0, high: 0 };
+    let mut i = 0;
+    while i < n {
+        let l = crate::views::line(image, k, i);
+        s = crate::fits::with_children(s, l);
+        i += 1;
+    }
+    s
+}
+
+// 6 in box b, whose n sites are block k; free: the free names; used: the subjects of earlier boxes.
+pub fn box_sites(image: &[u8], b: usize, k: usize, n: usize, free: u64, used: u64) -> Answer
+    requires sites { ⌜ SitesAt (now image) b k n ⌝ }
+    requires few { ⌜ length (modelOf (now image) .kinds) ≤ 60 ⌝ }
+    requires free { ⌜ SetOf free (isFree (modelOf (now image) .kinds)) ⌝ }
+    requires used { ⌜ SetOf used (usedBefore (modelOf (now image)) b 0) ⌝ }
+    ensures { λ r. ⌜ readOf r ≡ boxMisfit 6 n (siteFits (modelOf (now (image .entry)))) b ⌝ }
+{
+    let mut seen = used;
+    let mut i = 0;
+    while i < n {
+        let s = crate::views::site(image, k, i);
+        if !crate::fits::site_fits(s, free, seen) {
+            return fault_if(true, 6, b, i);
+        }
+        seen = sets::with(seen, s.subject);
+        i += 1;
+    }
+    Answer::Held
+}
+
+// 7 in box b, whose n lines follow block k; all: the listed names, and then those of each kind that a line binds.
+pub fn box_lines(
+    image: &[u8],
+    b: usize,
+    k: usize,
+    n: usize,
+    all: u64,
+    restricted: u64,
+    received: u64,
+    exposed: u64,
+) -> Answer
+    requires lines { ⌜ LinesAt (now image) b k n ⌝ }
+    requires kinds { ⌜ KindsIn (modelOf (now image) .kinds) all restricted received exposed ⌝ }
+    ensures { λ r. ⌜ readOf r ≡ boxMisfit 7 n (lineFit (modelOf (now (image .entry)))) b ⌝ }
+{
+    let mut i = 0;
+    while i < n {
+        let l = crate::views::line(image, k, i);
+        if !crate::fits::line_fits(l, all, restricted, received, exposed) {
+            return fault_if(true, 7, b, i);
+        }
+        i += 1;
+    }
+    Answer::Held
+}
+
+// 8 in box b.
+pub fn box_tree(image: &[u8], b: usize, k: usize, n: usize) -> Answer
+    requires { ⌜ LinesAt (now image) b k n ⌝ }
+    ensures { λ r. ⌜ readOf r ≡ boxMisfit 8 n (treeFit (modelOf (now (image .entry)))) b ⌝ }
+{
+    let all = children(image, k, n);
+    let mut seen = Kids { low: 0, high: 0 };
+    let mut i = 0;
+    while i < n {
+        let l = crate::views::line(image, k, i);
+        if !crate::fits::tree_fits(l, i, n, seen, all) {
+            return fault_if(true, 8, b, i);
+        }
+        seen = crate::fits::with_children(seen, l);
+        i += 1;
+    }
+    Answer::Held
+}
+
+// 9 in box b; plain: the names that need no binding; bound: those that earlier boxes bind.
+pub fn box_reach(image: &[u8], b: usize, k: usize, n: usize, plain: u64, bound: u64) -> Answer
+    requires lines { ⌜ LinesAt (now image) b k n ⌝ }
+    requires trees { ⌜ TreesFit (now image) b n ⌝ }
+    requires plain { ⌜ SetOf plain (isPlain (modelOf (now image) .kinds)) ⌝ }
+    requires bound { ⌜ SetOf bound (boundBefore (modelOf (now image)) b 0) ⌝ }
+    ensures { λ r. ⌜ readOf r ≡ boxMisfit 9 n (reachFits (modelOf (now (image .entry)))) b ⌝ }
+{
+    let up = crate::views::above(image, k, n);
+    let mut seen = bound;
+    let mut i = 0;
+    while i < n {
+        let l = crate::views::line(image, k, i);
+        if !crate::fits::reach_fits(l, plain, up[i], seen) {
+            return fault_if(true, 9, b, i);
+        }
+        seen = sets::union(seen, binder(l));
+        i += 1;
+    }
+    Answer::Held
+}
