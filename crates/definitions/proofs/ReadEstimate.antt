@@ -1,19 +1,23 @@
 -- An estimate image is not refused exactly when its length is right and each of its blocks fits; and then its sets are of the model's
 -- names. Assumes nothing.
-use mathlib.Core.Path.{_≡_, refl, sym, _∙_}
-use mathlib.Core.Logic.{_↔_}
+use mathlib.Core.Path.{_≡_, ap, _∙_}
+use mathlib.Core.Logic.{_↔_, ⊎-elim}
 use mathlib.Core.Bool.{Bool, true, false}
 use mathlib.Core.List.{List}
 use mathlib.Core.Option.{Option, none}
 use Prim.Native.Nat.{ℕ, _+_, _*_, _/_, _^_, _<_}
+use native.Mathlib.Nat.{div-lt-iff-lt-mul}
 use native.Mathlib.Omega.{arith}
 use lib.Dec.{T}
 use lib.ListN.{length}
+use lib.Pow.{pow-pos}
 use Rattle.definitions.specs.Bounded.{_or_, _and_, _is_, _below_, _upto_, allBelow}
+use Rattle.definitions.specs.Sets.{has}
 use Rattle.definitions.specs.Words.{blockOf, countOf, dataWord}
-use Rattle.definitions.specs.Estimate.{epsBlock, kapBlock}
+use Rattle.definitions.specs.Estimate.{epsBlock, kapBlock, estimateOf}
 use Rattle.definitions.specs.ReadEstimate.{noBitPast, setsFit, tableFault, readEstimate}
-use Rattle.definitions.proofs.Bounded.{tests, choice-iff}
+use Rattle.definitions.proofs.Bounded.{tests, choice-iff, decide, not-false}
+use Rattle.definitions.proofs.Sets.{has-none, has-below}
 use Rattle.definitions.proofs.Faults.{faults}
 use Rattle.definitions.proofs.ReadModel.{Headed, block-iff}
 
@@ -65,3 +69,29 @@ read-estimate-iff names boxes image = (
       record { size = p .0; rho = p .1 .0; eps = λ b h. p .1 .1 b h .0; kap = λ b h. p .1 .1 b h .1 },
   λ f. simp (faults, table-iff) (f .size, (f .rho, λ b h. (f .eps b h, f .kap b h))),
 )
+
+-- ---- the sets of an estimate that is not refused hold no name past the list
+
+table-names : (image : List ℕ) (names k asked box : ℕ) → TableFits image names k asked box
+    → (i : ℕ) → i < 62 → (a : ℕ) → T (has (dataWord (blockOf image k) i) a) → a < names
+table-names image names k asked box f i h a t = ⊎-elim (λ s. low (f .set i h s)) (λ s. absurd (not-false (ap (λ (w : ℕ). has w a) (f .clear i h s) ∙ has-none a) t)) (decide (isSet names asked i))
+  where
+    low : dataWord (blockOf image k) i / 2 ^ names ≡ 0 → a < names
+    low e =
+        let l : dataWord (blockOf image k) i < 1 * 2 ^ names = div-lt-iff-lt-mul (pow-pos names) .0 (omega arith) in
+        has-below names (dataWord (blockOf image k) i) a (omega arith) t
+
+pub record EstimateFits (names boxes : ℕ) (image : List ℕ) : Type 0 where
+  pub size : length image ≡ 512 * (1 + 2 * boxes)
+  pub rho : (n : ℕ) → n < 62 → (a : ℕ) → T (has (estimateOf image .rho n) a) → a < names
+  pub shown : (b : ℕ) → b < boxes → (a : ℕ) → T (has (estimateOf image .shown b) a) → a < names
+
+pub estimate-fits : (names boxes : ℕ) (image : List ℕ) → readEstimate names boxes image ≡ none → EstimateFits names boxes image
+unfolding estimateOf
+estimate-fits names boxes image e =
+    let r = read-estimate-iff names boxes image .0 e in
+    record {
+      size = r .size;
+      rho = table-names image names 0 4 0 (r .rho);
+      shown = λ b l. table-names image names (epsBlock b) 5 b (r .eps b l) 60 (omega arith);
+    }

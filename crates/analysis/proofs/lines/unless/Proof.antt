@@ -1,0 +1,13 @@
+-- `analysis::lines::unless` meets its contract: a fault where the test fails. Assumes nothing.
+use Rattle.analysis.proofs.Steps.{clauses-1}
+use Rattle.analysis.proofs.lines.unless.Statement.{statement}
+use Rattle.analysis.proofs.lines.unless.Tie as tie
+
+returns : tie.Need-returns
+returns c = search clauses-1
+
+returns-2 : tie.Need-returns-2
+returns-2 c = search clauses-1
+
+pub unless-spec : {M : Type 1} → statement M
+unless-spec = tie.close (tie.spec returns returns-2)

@@ -1,0 +1,143 @@
+// The first broken clause: names, then box by box its sites and its lines.
+ghost use mathlib.Core.Path.{_≡_};
+ghost use Prim.Native.Nat.{_<_, _≤_};
+ghost use lib.ListN.{length};
+ghost use mathlib.Core.Bool.{not};
+ghost use Rattle.definitions.specs.Bounded.{_implies_, _isnt_, firstBelow};
+ghost use Rattle.definitions.specs.Words.{blockOf, countOf};
+ghost use Rattle.definitions.specs.Image.{boxesOf, nameCount, sitesBlock, linesOf, modelOf};
+ghost use Rattle.definitions.specs.Estimate.{estimateOf};
+ghost use Rattle.definitions.specs.Clauses.{siteBroken, lineBroken, boxBroken, firstBroken};
+ghost use Rattle.definitions.specs.ShutOff as shut;
+ghost use Rattle.model.specs.Holds.{OfKind, Holds};
+ghost use Rattle.clauses.specs.Asks.{Small, Needs};
+ghost use Rattle.analysis.specs.Answers.{foundIn};
+ghost use Rattle.analysis.specs.Tests.{Ready, nameBroken};
+use crate::Found;
+use crate::lines;
+use model::Layout;
+
+fn names(model: &[u8], estimate: &[u8], free: u64, count: usize) -> Found
+    requires { ⌜ Ready (now model) (now estimate) × OfKind (now model) 0 free × (count ≡ nameCount (now model)) ⌝ }
+    ensures { λ r. ⌜ foundIn r ≡ firstBelow count (nameBroken (modelOf (now (model .entry))) (estimateOf (now (estimate .entry)))) ⌝ }
+{
+    let mut n = 0;
+    while n < count {
+        let f = lines::name(model, estimate, free, n);
+        if let Found::First(_) = f {
+            return f;
+        }
+        n += 1;
+    }
+    Found::Nothing
+}
+
+fn sites(model: &[u8], estimate: &[u8], k: usize, b: usize, count: usize) -> Found
+    requires { ⌜ Ready (now model) (now estimate) × (b < boxesOf (now model)) × (k ≡ sitesBlock (now model) b) × (count ≡ countOf (blockOf (now model) k)) ⌝ }
+    ensures { λ r. ⌜ foundIn r ≡ firstBelow count (siteBroken (modelOf (now (model .entry))) (estimateOf (now (estimate .entry))) b) ⌝ }
+{
+    let mut i = 0;
+    while i < count {
+        let f = lines::site(model, estimate, k, b, i);
+        if let Found::First(_) = f {
+            return f;
+        }
+        i += 1;
+    }
+    Found::Nothing
+}
+
+fn each_line(
+    model: &[u8],
+    estimate: &[u8],
+    t: &[u64; 512],
+    boxes: usize,
+    k: usize,
+    b: usize,
+    count: usize,
+) -> Found
+    requires { ⌜ Ready (now model) (now estimate) × Needs (now estimate) boxes (now t) × (boxes ≡ boxesOf (now model)) × (b < boxes) × (k ≡ sitesBlock (now model) b) × (count ≡ linesOf (now model) b) ⌝ }
+    ensures { λ r. ⌜ foundIn r ≡ firstBelow count (lineBroken (modelOf (now (model .entry))) (estimateOf (now (estimate .entry))) b) ⌝ }
+{
+    let mut i = 0;
+    while i < count {
+        let f = lines::line(model, estimate, t, boxes, k, b, i);
+        if let Found::First(_) = f {
+            return f;
+        }
+        i += 1;
+    }
+    Found::Nothing
+}
+
+// Box b: its sites, then its lines.
+fn one_box(model: &[u8], estimate: &[u8], t: &[u64; 512], layout: Layout, b: usize) -> Found
+    requires { ⌜ Ready (now model) (now estimate) × Holds (now model) layout × Needs (now estimate) (layout .boxes) (now t) × (b < layout .boxes) × (b < 8) ⌝ }
+    ensures { λ r. ⌜ foundIn r ≡ boxBroken (modelOf (now (model .entry))) (estimateOf (now (estimate .entry))) b ⌝ }
+{
+    let at = layout.at;
+    let k = at[b];
+    let counts = layout.sites;
+    let f = sites(model, estimate, k, b, counts[b]);
+    if let Found::First(_) = f {
+        return f;
+    }
+    let counts = layout.lines;
+    each_line(model, estimate, t, layout.boxes, k, b, counts[b])
+}
+
+fn each_box(model: &[u8], estimate: &[u8], t: &[u64; 512], layout: Layout) -> Found
+    requires { ⌜ Ready (now model) (now estimate) × Holds (now model) layout × Needs (now estimate) (layout .boxes) (now t) ⌝ }
+    ensures { λ r. ⌜ foundIn r ≡ firstBelow (layout .boxes) (boxBroken (modelOf (now (model .entry))) (estimateOf (now (estimate .entry)))) ⌝ }
+{
+    let boxes = layout.boxes;
+    let mut b = 0;
+    while b < boxes {
+        let f = one_box(model, estimate, t, layout, b);
+        if let Found::First(_) = f {
+            return f;
+        }
+        b += 1;
+    }
+    Found::Nothing
+}
+
+// Clause 1 by name; then box by box. What clause 6 asks is gathered first.
+pub fn first_broken(model: &[u8], estimate: &[u8], layout: Layout) -> Found
+    requires { ⌜ Ready (now model) (now estimate) × Holds (now model) layout ⌝ }
+    ensures { λ r. ⌜ foundIn r ≡ firstBroken (modelOf (now (model .entry))) (estimateOf (now (estimate .entry))) ⌝ }
+{
+    let f = names(model, estimate, layout.free, layout.names);
+    if let Found::First(_) = f {
+        return f;
+    }
+    let t = clauses::gather::needs(estimate, layout.boxes);
+    each_box(model, estimate, &t, layout)
+}
+
+// Box h is linked to no other box.
+pub fn shut_off(estimate: &[u8], boxes: usize, h: usize) -> bool
+    requires { ⌜ Small (now estimate) boxes × (h < boxes) ⌝ }
+    ensures { λ r. ⌜ r ≡ shut.shutOff (estimateOf (now (estimate .entry))) boxes h ⌝ }
+{
+    let mut k = 0;
+    while k < boxes {
+        if !apart(estimate, boxes, h, k) {
+            return false;
+        }
+        k += 1;
+    }
+    true
+}
+
+// Box k is box h, or not linked to it.
+fn apart(estimate: &[u8], boxes: usize, h: usize, k: usize) -> bool
+    requires { ⌜ Small (now estimate) boxes × (h < boxes) × (k < boxes) ⌝ }
+    ensures { λ r. ⌜ r ≡ (k isnt h implies not (shut.linked (estimateOf (now (estimate .entry))) h k)) ⌝ }
+{
+    if k == h {
+        true
+    } else {
+        !clauses::walks::linked(estimate, boxes, h, k)
+    }
+}

@@ -1,0 +1,3 @@
+pub mod Members
+pub mod Unions
+pub mod Tests
