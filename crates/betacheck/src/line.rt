@@ -1,0 +1,46 @@
+// The line that the checking program writes for a verdict.
+ghost use mathlib.Core.Path.{_≡_};
+ghost use mathlib.Core.List.{_++_};
+ghost use Prim.Native.Nat.{_+_};
+ghost use Rattle.definitions.specs.Program.{threeNumbers, lineOf};
+ghost use Rattle.analysis.specs.Answers.{verdictIn};
+ghost use Rattle.text.specs.Text.{textOf, Room, Reads};
+use analysis::Verdict;
+use text::Text;
+
+// Three numbers with single spaces between, and a newline.
+fn with_three(t: Text, a: u64, b: u64, c: u64) -> Text
+    requires { ⌜ Room t 63 ⌝ }
+    ensures { λ r. ⌜ Reads (textOf t ++ threeNumbers a b c) (t .len + 63) r ⌝ }
+{
+    let t1 = text::with_byte(text::with_number(t, a, 20), b' ');
+    let t2 = text::with_byte(text::with_number(t1, b, 20), b' ');
+    text::with_byte(text::with_number(t2, c, 20), b'\n')
+}
+
+pub fn line(v: Verdict) -> Text
+    ensures { λ r. ⌜ textOf r ≡ lineOf (verdictIn v) ⌝ }
+{
+    let t = text::empty();
+    match v {
+        Verdict::Accepted => text::with_word(t, b"accepted\n"),
+        Verdict::Breaks(x) => with_three(
+            text::with_word(t, b"clause "),
+            x.clause as u64,
+            x.boxno as u64,
+            x.place as u64,
+        ),
+        Verdict::RefusedModel(r) => with_three(
+            text::with_word(t, b"refused model "),
+            r.number as u64,
+            r.place as u64,
+            r.second as u64,
+        ),
+        Verdict::RefusedEstimate(r) => with_three(
+            text::with_word(t, b"refused estimate "),
+            r.number as u64,
+            r.place as u64,
+            r.second as u64,
+        ),
+    }
+}
