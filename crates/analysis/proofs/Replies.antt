@@ -275,8 +275,13 @@ whole-check model estimate v ev =
       inEstimate = λ r e. record { whole = λ h. estimate-whole (nameCount model) (boxesOf model) estimate r (from-estimate a b w r (sym ev ∙ e)) h };
     }
 
+-- a verdict that is the checker's
+pub part-is : (model estimate p : List ℕ) (v : cl.Verdict) → v ≡ cl.check model estimate → p ≡ shut.refusedIn model estimate v → p ≡ shut.refusedBlock model estimate
+unfolding shut.refusedBlock
+part-is model estimate p v ev e = e ∙ ap (shut.refusedIn model estimate) ev
+
 pub ruleset verdicts = (needs, found-none, found-first, fits-ready, fits-found, misfits, held-none, check-held, check-refused, held-holds)
 
 pub ruleset replies = (needs, reply-nobody, reply-is, layout-small, accepted-ready, accepted-holds, reply-accepted, reply-breaks, reply-model, reply-estimate)
 
-pub ruleset parts = (needs, whole-is, block-there, block-missing, part-below, part-above, part-in, if-whole, part-accepted, part-breaks, part-model, part-estimate, if-model, if-estimate)
+pub ruleset parts = (needs, whole-is, block-there, block-missing, part-below, part-above, part-in, if-whole, part-accepted, part-breaks, part-model, part-estimate, if-model, if-estimate, whole-check, part-is)

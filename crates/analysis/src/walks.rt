@@ -54,13 +54,13 @@ fn each_line(
     boxes: usize,
     k: usize,
     b: usize,
-    count: usize,
+    total: usize,
 ) -> Found
-    requires { ⌜ Ready (now model) (now estimate) × Needs (now estimate) boxes (now t) × (boxes ≡ boxesOf (now model)) × (b < boxes) × (k ≡ sitesBlock (now model) b) × (count ≡ linesOf (now model) b) ⌝ }
-    ensures { λ r. ⌜ foundIn r ≡ firstBelow count (lineBroken (modelOf (now (model .entry))) (estimateOf (now (estimate .entry))) b) ⌝ }
+    requires { ⌜ Ready (now model) (now estimate) × Needs (now estimate) boxes (now t) × (boxes ≡ boxesOf (now model)) × (b < boxes) × (k ≡ sitesBlock (now model) b) × (total ≡ linesOf (now model) b) ⌝ }
+    ensures { λ r. ⌜ foundIn r ≡ firstBelow total (lineBroken (modelOf (now (model .entry))) (estimateOf (now (estimate .entry))) b) ⌝ }
 {
     let mut i = 0;
-    while i < count {
+    while i < total {
         let f = lines::line(model, estimate, t, boxes, k, b, i);
         if let Found::First(_) = f {
             return f;

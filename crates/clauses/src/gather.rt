@@ -38,7 +38,7 @@ fn faced(estimate: &[u8], x: u64, k: usize, s: u64) -> u64
 
 // What is gathered so far, with what a site of box b with the type x asks of box k.
 fn other(estimate: &[u8], boxes: usize, b: usize, x: u64, k: usize, w: u64) -> u64
-    requires { ⌜ Small (now estimate) boxes × (k < boxes) ⌝ }
+    requires { ⌜ Small (now estimate) boxes × (b < boxes) × (k < boxes) ⌝ }
     ensures { λ r. ⌜ Joined r w (otherAsk (estimateOf (now (estimate .entry))) b x k) ⌝ }
 {
     if k != b {
@@ -50,7 +50,7 @@ fn other(estimate: &[u8], boxes: usize, b: usize, x: u64, k: usize, w: u64) -> u
 
 // What it asks of every other box.
 fn others(estimate: &[u8], boxes: usize, b: usize, x: u64) -> u64
-    requires { ⌜ Small (now estimate) boxes ⌝ }
+    requires { ⌜ Small (now estimate) boxes × (b < boxes) ⌝ }
     ensures { λ r. ⌜ Asked r (boxesAsk (estimateOf (now (estimate .entry))) boxes b x) ⌝ }
 {
     let mut w: u64 = 0;

@@ -9,10 +9,10 @@ use Rattle.analysis.proofs.walks.each_line.Statement.{statement}
 use Rattle.analysis.proofs.walks.each_line.Tie as tie
 
 abbrev Inv-loop : tie.InvT-loop
-Inv-loop model estimate t boxes k b count i₀ i = Passed count (lineBroken (modelOf model) (estimateOf estimate) b) i
+Inv-loop model estimate t boxes k b total i₀ i = Passed total (lineBroken (modelOf model) (estimateOf estimate) b) i
 
 abbrev μ-loop : tie.MeasureT-loop
-μ-loop model estimate t boxes k b count i₀ i = count - i
+μ-loop model estimate t boxes k b total i₀ i = total - i
 
 loop-holds : tie.Need-loop-holds Inv-loop μ-loop
 loop-holds c = search firsts
