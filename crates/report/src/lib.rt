@@ -1,5 +1,4 @@
 // The line that the checking program writes for a verdict.
-ghost use mathlib.Core.Path.{_≡_};
 ghost use mathlib.Core.List.{_++_};
 ghost use Prim.Native.Nat.{_+_};
 ghost use Rattle.definitions.specs.Program.{threeNumbers, lineOf};
@@ -19,7 +18,7 @@ fn with_three(t: Text, a: u64, b: u64, c: u64) -> Text
 }
 
 pub fn line(v: Verdict) -> Text
-    ensures { λ r. ⌜ textOf r ≡ lineOf (verdictIn v) ⌝ }
+    ensures { λ r. ⌜ Reads (lineOf (verdictIn v)) 96 r ⌝ }
 {
     let t = text::empty();
     match v {

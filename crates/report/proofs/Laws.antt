@@ -1,0 +1,61 @@
+-- A line put together from words and numbers. Assumes nothing.
+use mathlib.Core.Path.{_≡_, refl, sym, ap, ap₂, _∙_}
+use mathlib.Core.List.{List, [], _∷_, _++_, append-assoc}
+use Prim.Native.Nat.{ℕ, _+_, _≤_}
+use native.Mathlib.Omega.{arith}
+use borrow.Author.Needs.{needs}
+use lib.ListN.{length}
+use Rattle.definitions.specs.Program.{decimalIn, threeNumbers, acceptedWord, clauseWord, refusedModelWords, refusedEstimateWords, lineOf}
+use Rattle.model.specs.declared.Refusal.{Refusal}
+use Rattle.analysis.specs.declared.Broken.{Broken}
+use Rattle.analysis.specs.declared.Verdict.{Verdict}
+use Rattle.analysis.specs.declared.Verdict.the-variants.{Accepted, Breaks, RefusedModel, RefusedEstimate}
+use Rattle.analysis.specs.Answers.{verdictIn}
+use Rattle.text.specs.declared.Text.{Text}
+use Rattle.text.specs.Text.{textOf, Room, Reads}
+
+-- three numbers: each is followed by one byte
+pub three-done : (t n₁ b₁ n₂ b₂ n₃ b₃ : Text) (a b c : ℕ) → Reads (textOf t ++ decimalIn 20 a) (t .len + 20) n₁
+    → Reads (textOf n₁ ++ (32 ∷ [])) (n₁ .len + 1) b₁ → Reads (textOf b₁ ++ decimalIn 20 b) (b₁ .len + 20) n₂
+    → Reads (textOf n₂ ++ (32 ∷ [])) (n₂ .len + 1) b₂ → Reads (textOf b₂ ++ decimalIn 20 c) (b₂ .len + 20) n₃
+    → Reads (textOf n₃ ++ (10 ∷ [])) (n₃ .len + 1) b₃ → Reads (textOf t ++ threeNumbers a b c) (t .len + 63) b₃
+unfolding threeNumbers
+three-done t n₁ b₁ n₂ b₂ n₃ b₃ a b c q₁ r₁ q₂ r₂ q₃ r₃ = record {
+  text = r₃ .text ∙ rw (q₃ .text, r₂ .text, q₂ .text, r₁ .text, q₁ .text) (simp append-assoc);
+  size = omega (arith, q₁ .size, r₁ .size, q₂ .size, r₂ .size, q₃ .size, r₃ .size);
+  whole = r₃ .whole;
+}
+
+-- room for what comes next
+pub room-of : (x : List ℕ) (most n : ℕ) (t : Text) → Reads x most t → most + n ≤ 96 → Room t n
+room-of x most n t q h = record { fits = omega (arith, q .size, h); whole = q .whole }
+
+-- a line of one word, and a line of a word and three numbers, both of the text that a start gives
+pub word-line : (e t : Text) (w v x : List ℕ) → Reads [] 0 e → length w ≤ 17 → Reads (textOf e ++ w) (e .len + length w) t → w ≡ v → x ≡ v → Reads x 96 t
+word-line e t w v x q l r s k =
+    record { text = r .text ∙ ap₂ _++_ (q .text) s ∙ sym k; size = omega (arith, q .size, r .size, l); whole = r .whole }
+
+pub word-three : (e t u : Text) (w v x : List ℕ) (a b c : ℕ) → Reads [] 0 e → length w ≤ 17 → Reads (textOf e ++ w) (e .len + length w) t → w ≡ v
+    → Reads (textOf t ++ threeNumbers a b c) (t .len + 63) u → x ≡ v ++ threeNumbers a b c → Reads x 96 u
+word-three e t u w v x a b c q l r s z k = record {
+  text = z .text ∙ ap (λ (y : List ℕ). y ++ threeNumbers a b c) (r .text ∙ ap₂ _++_ (q .text) s) ∙ sym k;
+  size = omega (arith, q .size, r .size, z .size, l);
+  whole = z .whole;
+}
+
+-- the line of each verdict
+pub line-accepted : (v : Verdict) → v ≡ Accepted → lineOf (verdictIn v) ≡ acceptedWord
+unfolding lineOf
+line-accepted v k = ap (λ (x : Verdict). lineOf (verdictIn x)) k
+
+pub line-breaks : (v : Verdict) (x : Broken) → v ≡ Breaks x → lineOf (verdictIn v) ≡ clauseWord ++ threeNumbers (x .clause) (x .boxno) (x .place)
+unfolding lineOf
+line-breaks v x k = ap (λ (y : Verdict). lineOf (verdictIn y)) k
+
+pub line-model : (v : Verdict) (x : Refusal) → v ≡ RefusedModel x → lineOf (verdictIn v) ≡ refusedModelWords ++ threeNumbers (x .number) (x .place) (x .second)
+unfolding lineOf
+line-model v x k = ap (λ (y : Verdict). lineOf (verdictIn y)) k
+
+pub line-estimate : (v : Verdict) (x : Refusal) → v ≡ RefusedEstimate x → lineOf (verdictIn v) ≡ refusedEstimateWords ++ threeNumbers (x .number) (x .place) (x .second)
+unfolding lineOf
+line-estimate v x k = ap (λ (y : Verdict). lineOf (verdictIn y)) k
