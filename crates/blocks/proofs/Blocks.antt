@@ -18,7 +18,7 @@ use Rattle.definitions.proofs.Bounded.{is-iff, upto-iff, below-iff, implies-iff
 use Rattle.definitions.proofs.Words.{byteAt-block, dataWord-block}
 use Rattle.definitions.proofs.Check.{checkOf-block, checkHeld-block}
 use Rattle.blocks.specs.declared.inside.Heading.{Heading}
-use Rattle.blocks.specs.Answers.{headingOf, ofBlock, ofWord}
+use Rattle.blocks.specs.Answers.{headingOf, ofBlock, ofWord, ofPlace}
 
 -- ---- what is read at the block's place
 
@@ -118,5 +118,17 @@ cleared-end block from i c l =
     (all-iff 62 (λ j. from upto j implies dataWord block j is 0) .1
     (λ j h. implies-iff (from upto j) (dataWord block j is 0) .1
     (λ t. is-iff (dataWord block j) 0 .1 (c .zeros j (upto-iff from j .0 t) (omega arith))))))
+
+-- the word at a place: it stands there, or the place is too near the end
+pub place-held : (image : List ℕ) (at w : ℕ) → at + 8 ≤ length image → w ≡ wordAt image at → some w ≡ ofPlace image at
+unfolding ofPlace
+place-held image at w h e =
+    ap some e ∙ sym (ap (λ (x : Bool). elim x [ true ↦ some (wordAt image at) | false ↦ none ]) (true-of (at + 8 upto length image) (upto-iff (at + 8) (length image) .1 h)))
+
+pub place-past : (image : List ℕ) (at : ℕ) → length image < at + 8 → none ≡ ofPlace image at
+unfolding ofPlace
+place-past image at h =
+    sym (ap (λ (x : Bool). elim x [ true ↦ some (wordAt image at) | false ↦ none ])
+    (false-of (at + 8 upto length image) (λ t. let q = upto-iff (at + 8) (length image) .0 t in omega arith)))
 
 pub ruleset blocks = (needs, le-refl, zero-le, of-held, of-missing, word-past, word-read, check-of, data-of, check-is, held, cleared-start, cleared-turn, cleared-stop, cleared-end)

@@ -5,7 +5,7 @@ use mathlib.Core.Option.{Option, none, some}
 use Prim.Native.Nat.{ℕ, _+_, _*_}
 use lib.ListN.{length}
 use Rattle.definitions.specs.Bounded.{_below_, _upto_}
-use Rattle.definitions.specs.Words.{blockOf, numberOf, kindOf, boxOf, countOf, spareOf, dataWord}
+use Rattle.definitions.specs.Words.{wordAt, blockOf, numberOf, kindOf, boxOf, countOf, spareOf, dataWord}
 use Rattle.blocks.specs.declared.inside.Heading.{Heading}
 use Rattle.blocks.specs.declared.Number.{Number}
 use Rattle.blocks.specs.declared.Number.the-variants.{NoBlock, Is}
@@ -24,6 +24,10 @@ ofBlock image k f = elim (512 * (k + 1) upto length image) [ true ↦ some (f (b
 -- data word i of block k, where there is one
 unfoldable pub ofWord : List ℕ → ℕ → ℕ → Option ℕ
 ofWord image k i = elim (i below 62) [ true ↦ ofBlock image k (λ block. dataWord block i) | false ↦ none ]
+
+-- the word of eight bytes at a place, where they stand in the image
+unfoldable pub ofPlace : List ℕ → ℕ → Option ℕ
+ofPlace image at = elim (at + 8 upto length image) [ true ↦ some (wordAt image at) | false ↦ none ]
 
 abbrev pub numberIn : Number → Option ℕ
 numberIn NoBlock = none

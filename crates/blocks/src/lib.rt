@@ -5,7 +5,7 @@ ghost use Prim.Native.Nat.{_+_, _*_};
 ghost use lib.ListN.{length};
 ghost use Rattle.definitions.specs.Bounded.{_upto_};
 ghost use Rattle.definitions.specs.Check.{checkOf};
-ghost use Rattle.blocks.specs.Answers.{headingOf, ofBlock, ofWord, numberIn, headingIn};
+ghost use Rattle.blocks.specs.Answers.{headingOf, ofBlock, ofWord, ofPlace, numberIn, headingIn};
 
 pub mod inside;
 mod sums;
@@ -21,6 +21,19 @@ pub enum Number {
 pub enum Headed {
     NoHeading,
     By(inside::Heading),
+}
+
+// The little-endian word of eight bytes at any place.
+pub fn word_at(image: &[u8], at: usize) -> Number
+    ensures { λ r. ⌜ numberIn r ≡ ofPlace (now (image .entry)) at ⌝ }
+{
+    if image.len() < 8 {
+        return Number::NoBlock;
+    }
+    if image.len() - 8 < at {
+        return Number::NoBlock;
+    }
+    Number::Is(words::word(image, at))
 }
 
 // The image holds block k whole.

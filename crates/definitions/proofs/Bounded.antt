@@ -85,6 +85,11 @@ any-make (suc n) p x = or-iff (anyBelow n p) (p n) .1 (pick (ℕ-discrete n (x .
 pub any-iff : (n : ℕ) (p : ℕ → Bool) → T (anyBelow n p) ↔ ((i : ℕ) × (i < n) × T (p i))
 any-iff n p = (any-get n p, any-make n p)
 
+-- a choice by a test: the first where it holds, the second where it fails
+pub choice-iff : (c a b : Bool) → T (elim c [ true ↦ a | false ↦ b ]) ↔ ((T c → T a) × ((T c → ⊥) → T b))
+choice-iff true a b = (λ t. (λ _. t, λ f. absurd (f tt)), λ p. p .0 tt)
+choice-iff false a b = (λ t. (λ f. absurd f, λ _. t), λ p. p .1 (λ f. f))
+
 pub ruleset tests = (and-iff, implies-iff, is-iff, isnt-iff, below-iff, upto-iff, all-iff)
 
 -- a test, as a value
@@ -147,6 +152,14 @@ module _ {A : Type 0} where
       code none = ⊥
       code (some a) = Unit
   fault-none false a e t = t
+
+  pub fault-some : (b : Bool) (a c : A) → faultIf b a ≡ some c → T b × (a ≡ c)
+  fault-some true a c e = (tt, cc)
+  fault-some false a c e = absurd (subst (λ (o : Option A). code o) e tt)
+    where
+      code : Option A → Type 0
+      code none = Unit
+      code (some a) = ⊥
 
   pub none-fault : (b : Bool) (a : A) → (T b → ⊥) → faultIf b a ≡ none
   none-fault true a f = absurd (f tt)

@@ -17,9 +17,9 @@ use lib.Bits.{bitAnd, bitOr, and-step, and-shr, and-mask, and-le-l, or-step, or-
 use lib.Count.{trailingZeros, under, ones, ones-step}
 use lib.ListN.{length, getD, length-append, List·getD-append}
 use lib.Seq.{getD-at}
-use Rattle.definitions.specs.Bounded.{_and_, _or_, _is_, _upto_, faultIf, orElse, firstBelow}
+use Rattle.definitions.specs.Bounded.{_and_, _or_, _is_, _isnt_, _upto_, faultIf, orElse, firstBelow}
 use Rattle.definitions.specs.Sets.{has, forEach, forSome, within, meets, lowest, membersBelow, sizeBelow, size}
-use Rattle.definitions.proofs.Bounded.{decide, and-iff, upto-iff, all-iff, any-iff, true-of, of-true, false-of, not-false, same-test, fault-none, none-fault, each-none, none-each, first-stop, first-found}
+use Rattle.definitions.proofs.Bounded.{decide, and-iff, upto-iff, all-iff, any-iff, true-of, of-true, false-of, not-false, same-test, fault-none, fault-some, none-fault, each-none, none-each, first-stop, first-found}
 
 two-pos : 0 < 2
 two-pos = lit< tt
@@ -263,10 +263,6 @@ pub record IsLowest (s : ℕ) (p : ℕ → Bool) (n : ℕ) : Type 0 where
   pub member : T (has s n)
   pub passes : T (p n)
   pub least : (i : ℕ) → i < n → T (has s i) → T (p i) → ⊥
-
-pub fault-some : (b : Bool) (m n : ℕ) → faultIf b m ≡ some n → T b × (m ≡ n)
-fault-some true m n e = (tt, cc)
-fault-some false m n e = let z : _≡_ {A = ℕ} 0 1 = cc in absurd (omega arith)
 
 module _ (s : ℕ) (p : ℕ → Bool) where
   test : ℕ → Option ℕ
@@ -552,3 +548,36 @@ pub has-with : (s n m : ℕ) → n < 64 → has (bitOr s ((1 * 2 ^ n) % 2 ^ 64))
 has-with s n m l =
     ap (λ (x : ℕ). has (bitOr s x) m) (ap (λ (x : ℕ). x % 2 ^ 64) (one-mul (2 ^ n)) ∙ mod-eq-of-lt (pow-lt l))
     ∙ has-or s (2 ^ n) m ∙ ap (λ (b : Bool). has s m or b) (has-one n m)
+
+-- `s & (s - 1)`: the lowest member is out
+and-self : (b : Bool) → (b and b) ≡ (b and true)
+unfolding _and_
+and-self true = refl
+and-self false = refl
+
+pred-digit : (k x m : ℕ) → 0 < x → x < 2 ^ k → (has x m and has (x - 1) m) ≡ (has x m and trailingZeros k x isnt m)
+unfolding trailingZeros _isnt_ _and_
+pred-digit zero x m p h = absurd (omega arith)
+pred-digit (suc k) x m p h = go (pred-digit k (x / 2)) (x % 2) refl m
+  where
+    half : 2 ^ suc k ≡ 2 ^ k * 2
+    half = pow-suc 2 k
+
+    go : ((j : ℕ) → 0 < x / 2 → x / 2 < 2 ^ k → (has (x / 2) j and has (x / 2 - 1) j) ≡ (has (x / 2) j and trailingZeros k (x / 2) isnt j))
+        → (r : ℕ) → x % 2 ≡ r → (j : ℕ) → (has x j and has (x - 1) j) ≡ (has x j and under r (trailingZeros k (x / 2)) isnt j)
+    go ih zero e zero = ap₂ _and_ (has-zero x ∙ ap (λ (d : ℕ). eqb d 1) e) refl ∙ sym (ap₂ _and_ (has-zero x ∙ ap (λ (d : ℕ). eqb d 1) e) refl)
+    go ih zero e (suc j) =
+        let q : (x - 1) / 2 ≡ x / 2 - 1 = omega arith in
+        ap₂ _and_ (has-suc x j) (has-suc (x - 1) j ∙ ap (λ (y : ℕ). has y j) q) ∙ ih j (omega arith) (omega (arith, half))
+        ∙ sym (ap₂ _and_ (has-suc x j) (ap not (eqb·suc-suc (trailingZeros k (x / 2)) j)))
+    go ih (suc zero) e zero =
+        let q : (x - 1) % 2 ≡ 0 = omega arith in
+        ap (λ (b : Bool). has x 0 and b) (has-zero (x - 1) ∙ ap (λ (d : ℕ). eqb d 1) q)
+    go ih (suc zero) e (suc j) =
+        let q : (x - 1) / 2 ≡ x / 2 = omega arith in
+        ap₂ _and_ (has-suc x j) (has-suc (x - 1) j ∙ ap (λ (y : ℕ). has y j) q) ∙ and-self (has (x / 2) j)
+        ∙ sym (ap₂ _and_ (has-suc x j) (ap not (eqb·zero-suc j)))
+    go ih (suc (suc r)) e j = absurd (omega (arith, mod-lt x two-pos))
+
+pub has-rest : (x m : ℕ) → 0 < x → x < 2 ^ 64 → has (bitAnd x (x - 1)) m ≡ (has x m and trailingZeros 64 x isnt m)
+has-rest x m p h = has-and x (x - 1) m ∙ pred-digit 64 x m p h

@@ -87,7 +87,7 @@ siteFits m b i =
     isFree (m .kinds) (s .subject) and not (usedBefore m b i (s .subject)) and s .flag upto 1 and s .spare is 0
     and typeFits (isFree (m .kinds)) (s .subject) (s .type)
 
--- which fields an operation uses: first name, second name, first child, second child, type
+-- the operations that use a first name, a second name, a first child; parallel alone uses a second child, and expose alone a type
 unfoldable pub usesName1 : ℕ → Bool
 usesName1 op = restriction upto op
 

@@ -18,10 +18,11 @@ use Rattle.definitions.specs.Moves.{Inside, drop, spread, new, copy, expose, hi
 use Rattle.definitions.proofs.Bounded.{and-iff, any-iff, is-iff, isnt-iff, of-true, not-false}
 use Rattle.definitions.proofs.Sets.{meets-iff}
 use Rattle.definitions.proofs.Valid.{ValidLine, ValidReach, Valid}
-use Rattle.isolation.proofs.Rules.{ThreadFits, thread-iff, site-iff, RecordFits}
+use Rattle.definitions.proofs.StateRules.{ThreadFits, thread-iff, site-iff, RecordFits}
 use Rattle.isolation.proofs.KeepHeld.{number-held}
-use Rattle.isolation.proofs.Made.{InterMade, drop-made, spread-made, new-made, copy-made, expose-made, turn-made, intra-made, inter-made}
-use Rattle.isolation.proofs.Covers.{LineMet, Accepted, CoversThread, CoversSite, CoversRecord, covers-thread, covers-site}
+use Rattle.definitions.proofs.Made.{InterMade, drop-made, spread-made, new-made, copy-made, expose-made, turn-made, intra-made, inter-made}
+use Rattle.isolation.specs.Covers.{CoversThread, CoversSite, CoversRecord}
+use Rattle.definitions.proofs.Clauses.{LineClauses, AllClauses}
 use Rattle.isolation.proofs.CoverEdits.{goto-covered, bind-covered, turn-covered, site-length, site-covered, Covered, set-stamp, put-threads, put-sites, put-thread, take-thread, push-thread, put-site, push-site}
 
 -- ---- held names
@@ -35,7 +36,7 @@ number-low v = omega arith
 pub record Here (m : Model) (e : Estimate) (b : ℕ) (r : List ℕ) : Type 0 where
   pub last : ℕ → ℕ
   pub valid : Valid m
-  pub accepted : Accepted m e
+  pub accepted : AllClauses m e
   pub box : b < boxCount m
   pub fits : RecordFits m last (boxAt m b) r
   pub covers : CoversRecord e b r
@@ -63,11 +64,11 @@ module _ {m : Model} {e : Estimate} {b : ℕ} {r : List ℕ} (k : Here m e b r) 
     fits = thread-iff m (k .last) (boxAt m b) (thread r t) .0 (k .fits .threadsFit .live t h)
 
     covered : CoversThread e (thread r t)
-    covered = covers-thread (k .covers) t h
+    covered = k .covers .threadsCovered t h
 
-    met : LineMet m e b (lineHere m b r t)
+    met : LineClauses m e b (lineHere m b r t)
     unfolding lineOf
-    met = k .accepted .line b (k .box) (line (thread r t)) (fits .stands)
+    met = k .accepted .lines b (k .box) (line (thread r t)) (fits .stands)
 
     valid : ValidLine m (lineHere m b r t)
     unfolding lineOf
@@ -87,7 +88,7 @@ module _ {m : Model} {e : Estimate} {b : ℕ} {r : List ℕ} (k : Here m e b r) 
 
         pick : (c : Bool) → (kind (m .kinds) n is 0) ≡ c → InReach m b r t n
             → T (has (e .rho n) (heldNumber (elim c [ true ↦ freeHeld n | false ↦ binding (thread r t) n ])))
-        pick true q z = rw (number-held n 0 (omega (arith, low))) (k .accepted .free n l (is-iff (kind (m .kinds) n) 0 .0 (of-true q)))
+        pick true q z = rw (number-held n 0 (omega (arith, low))) (k .accepted .names n l (is-iff (kind (m .kinds) n) 0 .0 (of-true q)))
         pick false q (inl z) = absurd (not-false q (is-iff (kind (m .kinds) n) 0 .1 z))
         pick false q (inr z) = covered .bindings n low (fits .bound n low z .given)
 
@@ -107,7 +108,7 @@ module _ {m : Model} {e : Estimate} {b : ℕ} {r : List ℕ} (k : Here m e b r) 
 
     -- clause 4: what is sent is in kap at the channel (source paper 004, theorem 3.4)
     pub sent-in : lineHere m b r t .op ≡ opOutput → T (has (e .kap b (number1 m b r t)) (number2 m b r t))
-    sent-in o = met .clause4 o (number1 m b r t) (number-low _) (output-on o) (number2 m b r t) (number-low _) (output-of o)
+    sent-in o = met .sent o (number1 m b r t) (number-low _) (output-on o) (number2 m b r t) (number-low _) (output-of o)
 
     -- the words that a thread goes on with
     goto-length : (l : ℕ) → length (goto (thread r t) l) ≡ 61
@@ -166,7 +167,7 @@ module _ {m : Model} {e : Estimate} {b : ℕ} {r : List ℕ} (k : Here m e b r) 
       let d = new-made (m .kinds) (boxAt m b) r t s z in
       let h = d .0 .live in
       let o = d .0 .opIs in
-      rw (d .2) (made-name t h _ (valid t h .restrictListed o) (met t h .clause3 o))
+      rw (d .2) (made-name t h _ (valid t h .restrictListed o) (met t h .restricted o))
 
   copy-covered : (t : ℕ) (s : List ℕ) → copyMove (m .kinds) (boxAt m b) r t ≡ made s → Covered e b s
   copy-covered t s z =
@@ -188,9 +189,9 @@ module _ {m : Model} {e : Estimate} {b : ℕ} {r : List ℕ} (k : Here m e b r) 
       let type = lineHere m b r t .type in
       let c = made-sites t h n v in
       let site =
-      site-covered e b v 0 hold type (λ _. rw q (met t h .clause7shown o)) (λ f. absurd (f refl))
-      (λ g a p. rw q (met t h .clause7type o g a p _ (number-low (hold g)) (value-in t h g (valid t h .exposeType o g a p) (reach t h .exposeReach o g a p)))) in
-      rw (d .3) (push-site (made-name t h n l (met t h .clause7 o)) (omega (arith, d .1)) _ (site-length v 0 hold type) site)
+      site-covered e b v 0 hold type (λ _. rw q (met t h .exposed o .shown)) (λ f. absurd (f refl))
+      (λ g a p. rw q (met t h .exposed o .type g a p _ (number-low (hold g)) (value-in t h g (valid t h .exposeType o g a p) (reach t h .exposeReach o g a p)))) in
+      rw (d .3) (push-site (made-name t h n l (met t h .exposed o .self)) (omega (arith, d .1)) _ (site-length v 0 hold type) site)
 
   -- a site turned by hide or unhide: its subject is where its new flag says
   turn-move : (op before after t : ℕ) (s : List ℕ) → turnMove (m .kinds) (boxAt m b) r op before after t ≡ made s
@@ -206,19 +207,19 @@ module _ {m : Model} {e : Estimate} {b : ℕ} {r : List ℕ} (k : Here m e b r) 
       let c = put-sites here t h (onward (m .kinds) (boxAt m b) r t) (onward-length t h) in
       let size = site-iff m (k .last) (site r i) .0 (k .fits .sitesFit .live i (found .live)) .size in
       rw (d .1 .2) (put-site (put-onward t h) i (omega (arith, found .live)) _ (length-set (site r i) 1 after ∙ size)
-      (turn-covered e b (site r i) after size (rw (found .subjectIs) (f h o)) (rw (found .subjectIs) (g h o)) (covers-site (k .covers) i (found .live))))
+      (turn-covered e b (site r i) after size (rw (found .subjectIs) (f h o)) (rw (found .subjectIs) (g h o)) (k .covers .sitesCovered i (found .live))))
 
   -- clause 8
   hide-covered : (t : ℕ) (s : List ℕ) → turnMove (m .kinds) (boxAt m b) r opHide 0 1 t ≡ made s → Covered e b s
   hide-covered t s z =
       turn-move opHide 0 1 t s z (λ h o n. absurd (omega arith))
-      (λ h o _. met t h .clause8 o (number1 m b r t) (number-low _) (value1-in t h (valid t h .hideListed o) (reach t h .hideReach o)))
+      (λ h o _. met t h .hid o (number1 m b r t) (number-low _) (value1-in t h (valid t h .hideListed o) (reach t h .hideReach o)))
 
   -- clause 9
   unhide-covered : (t : ℕ) (s : List ℕ) → turnMove (m .kinds) (boxAt m b) r opUnhide 1 0 t ≡ made s → Covered e b s
   unhide-covered t s z =
       turn-move opUnhide 1 0 t s z
-      (λ h o _. met t h .clause9 o (number1 m b r t) (number-low _) (value1-in t h (valid t h .unhideListed o) (reach t h .unhideReach o)))
+      (λ h o _. met t h .unhid o (number1 m b r t) (number-low _) (value1-in t h (valid t h .unhideListed o) (reach t h .unhideReach o)))
       (λ h o n. absurd (n refl))
 
   -- clauses 4 and 5: what is sent is in kap at the channel, and from there in rho of what receives
@@ -231,7 +232,7 @@ module _ {m : Model} {e : Estimate} {b : ℕ} {r : List ℕ} (k : Here m e b r) 
       let v = value2 (m .kinds) (boxAt m b) r u in
       let q = lineHere m b r t .name2 in
       let sent : T (has (e .kap b (number1 m b r t)) (heldNumber v)) = rw (d .channel) (sent-in u g (d .opIs2)) in
-      let got = met t h .clause5 o (number1 m b r t) (number-low _) (input-on t h o) (heldNumber v) (number-low v) sent in
+      let got = met t h .received o (number1 m b r t) (number-low _) (input-on t h o) (heldNumber v) (number-low v) sent in
       let x = onwardWith (m .kinds) (boxAt m b) r t q v in
       let n = put-threads here t h x (with-length t h q v) in
       rw (d .leaves) (put-thread (put-thread here t h x (with-length t h q v) (with-covered t h q v (valid t h .receivedListed o) got)) u (omega arith) _
@@ -274,8 +275,8 @@ pub record Linked (e : Estimate) (b c v w : ℕ) : Type 0 where
 pub inter-linked : (kinds : List ℕ) (x y : Box) (e : Estimate) (b c : ℕ) (r s : List ℕ) → CoversRecord e b r → CoversRecord e c s → (t u : ℕ) (w : Ends)
     → InterMade kinds x r y s t u w → Linked e b c (value1 kinds x r t) (value1 kinds y s u)
 inter-linked kinds x y e b c r s k l t u w d =
-    let p = covers-site k (d .siteIn) (d .foundIn .live) in
-    let q = covers-site l (d .siteOut) (d .foundOut .live) in
+    let p = k .sitesCovered (d .siteIn) (d .foundIn .live) in
+    let q = l .sitesCovered (d .siteOut) (d .foundOut .live) in
     record {
       shownIn = rw (d .foundIn .subjectIs) at (p .shown (d .foundIn .flagIs));
       shownOut = rw (d .foundOut .subjectIs) at (q .shown (d .foundOut .flagIs));
@@ -292,8 +293,8 @@ inter-covered {m} {e} {b} {c} {r} {s} k l differ t h u g w z =
     let v = value2 (m .kinds) (boxAt m c) s u in
     let q = lineHere m b r t .name2 in
     let got =
-    met k t h .clause6 o (number1 m b r t) (number-low _) (input-on k t h o) (both .shownIn) c (l .box) (λ n. differ (sym n))
-    (number1 m c s u) (number-low _) (both .shownOut) (both .meet) (heldNumber v) (number-low v) (sent-in l u g (d .opIs2)) in (
+    met k t h .crossed o (number1 m b r t) (number-low _) (input-on k t h o) (both .shownIn) c (l .box) (λ n. differ (sym n))
+    (number1 m c s u) (number-low _) (both .shownOut) (meets-iff (e .eps b (number1 m b r t)) (e .eps c (number1 m c s u)) .0 (both .meet)) (heldNumber v) (number-low v) (sent-in l u g (d .opIs2)) in (
       rw (d .inputLeaves) (put-thread (here k) t h _ (with-length k t h q v) (with-covered k t h q v (valid k t h .receivedListed o) got)),
       rw (d .outputLeaves) (put-onward l u g),
     )

@@ -11,9 +11,10 @@ use Rattle.definitions.specs.Record.{recordOf, putRecord, lastStamps}
 use Rattle.definitions.specs.Moves.{Inside, Move, made, act}
 use Rattle.definitions.proofs.Slots.{length-putSlot, slot-put-same, slot-put-other}
 use Rattle.definitions.proofs.Valid.{Valid}
-use Rattle.isolation.proofs.Rules.{StateFits}
-use Rattle.isolation.proofs.Made.{InsideMade, InterActMade, act-made}
-use Rattle.isolation.proofs.Covers.{Accepted, CoversRecord, Covers}
+use Rattle.definitions.proofs.StateRules.{StateFits}
+use Rattle.definitions.proofs.Made.{InsideMade, InterActMade, act-made}
+use Rattle.isolation.specs.Covers.{CoversRecord, Covers}
+use Rattle.definitions.proofs.Clauses.{AllClauses}
 use Rattle.isolation.proofs.CoverEdits.{Covered}
 use Rattle.isolation.proofs.CoverMoves.{Here, inside-covered, inter-covered}
 
@@ -25,7 +26,7 @@ put-record m e st size most k b h r c = record { records = λ i l. pick i l (ℕ
     pick i l (yes z) = rw (← z, slot-put-same 0 1139 8 st (omega arith) b (omega arith) r (c .size)) (c .covers)
     pick i l (no z) = rw (slot-put-other 0 1139 8 st (omega arith) b (omega arith) r (c .size) i (omega arith) (omega arith)) (k .records i l)
 
-pub act-covered : (m : Model) → Valid m → (e : Estimate) → Accepted m e → (st : List ℕ) → StateFits m st → Covers m e st → (v : Move) (w : List ℕ) → act m st v ≡ made w → Covers m e w
+pub act-covered : (m : Model) → Valid m → (e : Estimate) → AllClauses m e → (st : List ℕ) → StateFits m st → Covers m e st → (v : Move) (w : List ℕ) → act m st v ≡ made w → Covers m e w
 act-covered m good e acc st fit cov v w z = act-made m st (Covers m e) v w z in-box between
   where
     here : (b : ℕ) → b < boxCount m → Here m e b (recordOf st b)

@@ -16,23 +16,11 @@ use Rattle.definitions.specs.Record.{threads, stateLength, recordOf, putRecord}
 use Rattle.definitions.specs.Moves.{Inside, Kind, inside, inter, unknown, kindOfMove, Move, Outcome, refused, made, Ends, need, onMade, insideMove, interMove, insideAct, interAct, act}
 use Rattle.definitions.specs.Calls.{outcomeNumber, outcomeWords, Ran, makes}
 use Rattle.definitions.proofs.Bounded.{tests, same-test}
+use Rattle.isolation.specs.Group.{namesGroup, struckBy, leftBy}
 use Rattle.isolation.proofs.KeepState.{put-record-same, put-record-other, put-record-length}
-use Rattle.isolation.proofs.Made.{refused-made, inside-act, inter-act, act-made, InsideMade, InterActMade}
+use Rattle.definitions.proofs.Made.{refused-made, inside-act, inter-act, act-made, InsideMade, InterActMade}
 
--- the move names a box of the group; the moves left; the answers to them
 module _ (group : ℕ → Bool) where
-  unfoldable pub namesGroup : Move → Bool
-  namesGroup v = elim (kindOfMove (v .kind)) [ inside k ↦ group (v .box) | inter ↦ group (v .box) or group (v .box2) | unknown ↦ false ]
-
-  unfoldable pub struckBy : List Move → List Move
-  struckBy [] = []
-  struckBy (v ∷ vs) = elim (namesGroup v) [ true ↦ struckBy vs | false ↦ v ∷ struckBy vs ]
-
-  unfoldable pub leftBy : List Move → List ℕ → List ℕ
-  leftBy [] answers = []
-  leftBy (v ∷ vs) [] = []
-  leftBy (v ∷ vs) (a ∷ answers) = elim (namesGroup v) [ true ↦ leftBy vs answers | false ↦ a ∷ leftBy vs answers ]
-
   -- two states have the same records outside the group
   abbrev pub SameOutside : List ℕ → List ℕ → Type 0
   SameOutside st₁ st₂ = (b : ℕ) → b < 8 → group b ≡ false → recordOf st₁ b ≡ recordOf st₂ b

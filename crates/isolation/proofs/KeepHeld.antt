@@ -20,7 +20,7 @@ use Rattle.definitions.specs.StateRules.{siteHeld, threadHeld}
 use Rattle.definitions.specs.Moves.{valueIn}
 use Rattle.definitions.proofs.Bounded.{is-iff, decide, true-of, false-of}
 use Rattle.definitions.proofs.Sets.{or-false}
-use Rattle.isolation.proofs.Rules.{HeldFits, ThreadFits, site-iff, thread-iff}
+use Rattle.definitions.proofs.StateRules.{HeldFits, ThreadFits, site-iff, thread-iff}
 
 -- ---- a held name's number and stamp
 

@@ -18,8 +18,8 @@ use Rattle.definitions.specs.Start.{typeWords}
 use Rattle.definitions.specs.Moves.{Inside, drop, spread, new, copy, expose, hide, unhide, intra, made, valueIn, lineOf, onward, onwardWith, value2, insideMove}
 use Rattle.definitions.proofs.Bounded.{is-iff, of-true, true-of}
 use Rattle.definitions.proofs.Valid.{Valid, ValidLine, ValidTree, ValidReach}
-use Rattle.isolation.proofs.Rules.{HeldFits, ThreadFits, RecordFits, site-iff, thread-iff}
-use Rattle.isolation.proofs.Made.{SiteFound, IntraMade, drop-made, spread-made, new-made, copy-made, expose-made, turn-made, intra-made}
+use Rattle.definitions.proofs.StateRules.{HeldFits, ThreadFits, RecordFits, site-iff, thread-iff}
+use Rattle.definitions.proofs.Made.{SiteFound, IntraMade, drop-made, spread-made, new-made, copy-made, expose-made, turn-made, intra-made}
 use Rattle.isolation.proofs.KeepHeld.{number-held, stamp-held, held-up, made-fits, binds-none, binds-restriction, binds-expose, binds-input, value-fits, goto-fits, bind-fits}
 use Rattle.isolation.proofs.TypeWords.{length-typeWords}
 use Rattle.isolation.proofs.KeepSite.{site-fits, turned-fits}

@@ -13,7 +13,7 @@ use Rattle.definitions.specs.Record.{stampLimit, stamp, threads, sites, site, t
 use Rattle.definitions.specs.StateRules.{siteHeld, threadHeld}
 use Rattle.definitions.proofs.Slots.{Apart, length-putSlot, word-putSlot, slot-put-same, slot-put-other}
 use Rattle.definitions.proofs.Arrays.{Array, Differ, Outside, array-imp, array-same, differ-same, differ-push, slots-frame, put-array, push-array, take-array, push-length, push-outside, push-count, push-same, push-other, take-length, take-outside}
-use Rattle.isolation.proofs.Rules.{SiteFits, ThreadFits, RecordFits, site-iff, thread-iff}
+use Rattle.definitions.proofs.StateRules.{SiteFits, ThreadFits, RecordFits, site-iff, thread-iff}
 use Rattle.isolation.proofs.KeepHeld.{site-up, thread-up}
 
 -- the counts stand outside the arrays, and the sites outside the threads

@@ -13,7 +13,7 @@ use Rattle.definitions.specs.Model.{Model, kind}
 use Rattle.definitions.specs.Record.{heldNumber, subject, typeWord, setFlag}
 use Rattle.definitions.specs.Start.{typeWords}
 use Rattle.definitions.proofs.Valid.{TypeSize}
-use Rattle.isolation.proofs.Rules.{HeldFits, SiteFits}
+use Rattle.definitions.proofs.StateRules.{HeldFits, SiteFits}
 use Rattle.isolation.proofs.TypeWords.{length-typeWords, type-each, type-some, type-before, type-ascends}
 
 -- a type word stands two words on

@@ -13,8 +13,8 @@ use Rattle.definitions.specs.Record.{stamp, threads, recordOf, putRecord, lastS
 use Rattle.definitions.specs.Moves.{Inside, Move, Ends, made, insideMove, interMove, act}
 use Rattle.definitions.proofs.Slots.{word-slot, word-put-before, word-put-after, length-putSlot, slot-put-same, slot-put-other}
 use Rattle.definitions.proofs.Valid.{Valid}
-use Rattle.isolation.proofs.Rules.{RecordFits, StateFits}
-use Rattle.isolation.proofs.Made.{InsideMade, InterActMade, act-made, inter-made}
+use Rattle.definitions.proofs.StateRules.{RecordFits, StateFits}
+use Rattle.definitions.proofs.Made.{InsideMade, InterActMade, act-made, inter-made}
 use Rattle.isolation.proofs.KeepRecord.{record-up}
 use Rattle.isolation.proofs.KeepMoves.{Kept, inside-kept, receive-kept, send-kept, sent-fits}
 

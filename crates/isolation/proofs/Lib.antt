@@ -1,6 +1,3 @@
-pub mod Covers
-pub mod Rules
-pub mod Made
 pub mod KeepHeld
 pub mod TypeWords
 pub mod KeepSite
@@ -8,7 +5,6 @@ pub mod KeepRecord
 pub mod KeepMoves
 pub mod KeepState
 pub mod StartFits
-pub mod Accepted
 pub mod CoverEdits
 pub mod CoverMoves
 pub mod Covered

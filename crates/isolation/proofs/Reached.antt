@@ -24,12 +24,12 @@ use Rattle.definitions.specs.Moves.{Kind, inside, inter, unknown, kindOfMove, M
 use Rattle.definitions.specs.Calls.{start, written, outcomeWords, outcomeRefusal, stateRefusal, step, Ran, steps, makes, runRefusal, run}
 use Rattle.definitions.proofs.Bounded.{left-none, right-none, fault-none, decide, or-iff, is-iff, true-of, false-of, of-true}
 use Rattle.definitions.proofs.ReadModel.{valid-image}
-use Rattle.isolation.proofs.Rules.{StateFits, state-iff}
-use Rattle.isolation.proofs.Made.{inter-act}
+use Rattle.definitions.proofs.StateRules.{StateFits, state-iff}
+use Rattle.definitions.proofs.Made.{inter-act}
 use Rattle.isolation.proofs.KeepState.{act-fits}
 use Rattle.isolation.proofs.StartFits.{start-fits}
-use Rattle.isolation.proofs.Covers.{Covers}
-use Rattle.isolation.proofs.Accepted.{accepted-of}
+use Rattle.isolation.specs.Covers.{Covers}
+use Rattle.definitions.proofs.Clauses.{broken-iff}
 use Rattle.isolation.proofs.Shut.{inter-refused}
 use Rattle.isolation.proofs.Follow.{outcome-good}
 use Rattle.isolation.proofs.Rule3.{Yes, question-yes, CheckAccepted, check-accepted, start-words, start-read, run-words, steps-are-moves, Good, good-start, good-next, one, image-valid, image-accepted, image-shut, image-start}
@@ -114,7 +114,7 @@ module _ (model words : List ℕ) (started : start model words .answer ≡ none)
   subject-reduction estimate ok =
       let c = check-accepted model estimate ok in
       let valid = valid-image model (c .model-read) in
-      let meets = accepted-of (modelOf model) (estimateOf estimate) (c .clauses) in
+      let meets = broken-iff (modelOf model) (estimateOf estimate) .0 (c .clauses) in
       rw after-is
       (makes-keep (modelOf model) (Good (modelOf model) (estimateOf estimate)) (good-next (modelOf model) valid (estimateOf estimate) meets) vs
       (startState (modelOf model)) (good-start (modelOf model) valid (estimateOf estimate) meets) .covered)

@@ -28,16 +28,17 @@ use Rattle.definitions.proofs.Bounded.{tests, left-none, right-none, fault-none
 use Rattle.definitions.proofs.Valid.{Valid}
 use Rattle.definitions.proofs.Image.{model-count}
 use Rattle.definitions.proofs.ReadModel.{valid-image}
-use Rattle.isolation.proofs.Rules.{StateFits, state-iff}
+use Rattle.definitions.proofs.StateRules.{StateFits, state-iff}
 use Rattle.isolation.proofs.KeepState.{act-fits, inside-size, inter-size}
 use Rattle.isolation.proofs.StartFits.{start-fits, start-record, start-lacking}
-use Rattle.isolation.proofs.Covers.{Accepted, Covers}
-use Rattle.isolation.proofs.Accepted.{accepted-of}
+use Rattle.isolation.specs.Covers.{Covers}
+use Rattle.definitions.proofs.Clauses.{AllClauses, broken-iff}
 use Rattle.isolation.proofs.CoverStart.{start-covered}
 use Rattle.isolation.proofs.Covered.{act-covered}
 use Rattle.isolation.proofs.Shut.{GroupShut, shut-group, inter-same-side}
 use Rattle.isolation.specs.Rule3.{Setting, Same, Rule3, Rule3Run}
-use Rattle.isolation.proofs.Follow.{namesGroup, struckBy, leftBy, SameOutside, EqualOutside, Reached, AlikeRuns, outcome-good, struck-alike}
+use Rattle.isolation.specs.Group.{namesGroup, struckBy, leftBy}
+use Rattle.isolation.proofs.Follow.{SameOutside, EqualOutside, Reached, AlikeRuns, outcome-good, struck-alike}
 
 -- ---- what an acceptance and a yes say
 
@@ -200,7 +201,7 @@ pub record Good (m : Model) (e : Estimate) (st : List ℕ) : Type 0 where
   pub fits : StateFits m st
   pub covered : Covers m e st
 
-module _ (m : Model) (valid : Valid m) (e : Estimate) (meets : Accepted m e) where
+module _ (m : Model) (valid : Valid m) (e : Estimate) (meets : AllClauses m e) where
   pub good-start : Good m e (startState m)
   good-start = record { fits = start-fits m valid; covered = start-covered m valid e meets }
 
@@ -242,8 +243,8 @@ module _ (model estimate : List ℕ) (h : ℕ) (yes : Yes model estimate h) wher
   pub image-valid : Valid (modelOf model)
   image-valid = valid-image model (yes .accepts .model-read)
 
-  pub image-accepted : Accepted (modelOf model) (estimateOf estimate)
-  image-accepted = accepted-of (modelOf model) (estimateOf estimate) (yes .accepts .clauses)
+  pub image-accepted : AllClauses (modelOf model) (estimateOf estimate)
+  image-accepted = broken-iff (modelOf model) (estimateOf estimate) .0 (yes .accepts .clauses)
 
   pub image-shut : GroupShut (estimateOf estimate) (boxCount (modelOf model)) (one h)
   unfolding one

@@ -14,8 +14,8 @@ use Rattle.definitions.specs.Record.{recordOf, heldNumber}
 use Rattle.definitions.specs.Moves.{made, value1, interAct}
 use Rattle.definitions.proofs.Bounded.{tests, is-iff, of-true, not-false}
 use Rattle.definitions.proofs.Sets.{forSome-iff, meets-comm}
-use Rattle.isolation.proofs.Made.{inter-act, inter-made}
-use Rattle.isolation.proofs.Covers.{Covers}
+use Rattle.definitions.proofs.Made.{inter-act, inter-made}
+use Rattle.isolation.specs.Covers.{Covers}
 use Rattle.isolation.proofs.CoverMoves.{number-low, Linked, inter-linked}
 
 -- of the boxes below `boxes`, none inside shares a type name with one outside

@@ -14,7 +14,7 @@ use Rattle.definitions.specs.Start.{freeHeld, startSite, startRecord, startStat
 use Rattle.definitions.proofs.Bounded.{below-iff, true-of, false-of}
 use Rattle.definitions.proofs.Slots.{length-zeros, word-zeros, word-left, word-right, part-is, length-flat, slot-flat, slot-between}
 use Rattle.definitions.proofs.Valid.{Valid, ValidBox, ValidSite}
-use Rattle.isolation.proofs.Rules.{SiteFits, ThreadFits, RecordFits, StateFits, site-iff, thread-iff}
+use Rattle.definitions.proofs.StateRules.{SiteFits, ThreadFits, RecordFits, StateFits, site-iff, thread-iff}
 use Rattle.isolation.proofs.KeepHeld.{number-held, free-fits}
 use Rattle.isolation.proofs.KeepSite.{site-fits}
 use Rattle.isolation.proofs.TypeWords.{length-typeWords}

@@ -1,1 +1,3 @@
+pub mod Group
+pub mod Covers
 pub mod Rule3

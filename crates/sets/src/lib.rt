@@ -4,7 +4,7 @@ ghost use mathlib.Core.Bool.{true, not};
 ghost use Prim.Native.Nat.{ℕ, _<_};
 ghost use Rattle.definitions.specs.Bounded.{_or_, _is_, _upto_};
 ghost use Rattle.definitions.specs.Sets as names;
-ghost use Rattle.sets.specs.Lowest.{lowestOf};
+ghost use Rattle.sets.specs.Lowest.{lowestOf, firstOf, RestOf};
 
 // The paper's "name's number". A held name, a number with a stamp, is another type.
 pub struct NameNo(pub u8);
@@ -36,6 +36,20 @@ pub fn meets(a: u64, b: u64) -> bool
     a & b != 0
 }
 
+// The lowest member of s, or 64 where s has none. `first` and `rest` walk over a set with no search.
+pub fn first(s: u64) -> NameNo
+    ensures { λ r. ⌜ r .0 ≡ firstOf s ⌝ }
+{
+    NameNo(u64::trailing_zeros(s) as u8)
+}
+
+// s without its lowest member.
+pub fn rest(s: u64) -> u64
+    ensures { λ r. ⌜ RestOf s r ⌝ }
+{
+    s & std::num::wrapping_sub_u64(s, 1)
+}
+
 // The lowest member of s.
 pub fn lowest_member(s: u64) -> Lowest
     ensures { λ r. ⌜ lowestOf r ≡ names.lowest s (λ n. true) ⌝ }
@@ -43,7 +57,7 @@ pub fn lowest_member(s: u64) -> Lowest
     if s == 0 {
         return Lowest::NoMember;
     }
-    Lowest::Member(NameNo(u64::trailing_zeros(s) as u8))
+    Lowest::Member(first(s))
 }
 
 // The lowest member of a that b lacks.
@@ -53,7 +67,7 @@ pub fn lowest_missing(a: u64, b: u64) -> Lowest
     lowest_member(a & !b)
 }
 
-// The lowest member of s from a number on: a walk over s starts at 0, and goes on one past each member.
+// The lowest member of s from a number on.
 pub fn next_member(s: u64, from: NameNo) -> Lowest
     ensures { λ r. ⌜ lowestOf r ≡ names.lowest s (λ n. from .0 upto n) ⌝ }
 {

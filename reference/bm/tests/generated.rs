@@ -1,6 +1,7 @@
 //! Generated cases: what they cover, and what must hold of all of them.
 
 use std::collections::BTreeMap;
+use std::io::Write;
 
 use bm::cases::damage::{DAMAGES, Expected, Pair};
 use bm::cases::random::{self, Size};
@@ -64,6 +65,21 @@ impl Tally {
     }
 }
 
+impl Tally {
+    /// The table of counts. Each refusal, clause and kind must have come.
+    fn table(&self) -> String {
+        let mut table = String::from("\nrefusal  cases or moves\n");
+        let line = |number: u32, count: usize| format!("{number:7}  {count}\n");
+        table.extend((1..=20u8).map(|number| line(number.into(), self.refusals[&number])));
+        table.push_str(" clause  cases\n");
+        table.extend((1..=9u8).map(|clause| line(clause.into(), self.clauses[&clause])));
+        table.push_str("   kind  moves made\n");
+        table.extend((1..=9u32).map(|kind| line(kind, self.made[&kind])));
+        table.extend(self.other.iter().map(|(what, count)| format!("{what}: {count}\n")));
+        table
+    }
+}
+
 /// The number that the name of a sort promises.
 fn promised(sort: &str, word: &str) -> Option<u8> {
     let rest = sort.strip_prefix(word)?;
@@ -85,13 +101,8 @@ fn cases_cover_every_answer() {
             assert!(is, "case {number}: {} gave {verdict}", case.sort);
         }
     }
-    println!("refusal  cases or moves");
-    (1..=20).for_each(|number| println!("{number:7}  {}", tally.refusals[&number]));
-    println!("clause   cases");
-    (1..=9).for_each(|clause| println!("{clause:7}  {}", tally.clauses[&clause]));
-    println!("kind     moves made");
-    (1..=9).for_each(|kind| println!("{kind:7}  {}", tally.made[&kind]));
-    println!("{:?}", tally.other);
+    // Written straight to the output, so that it is seen when the test passes.
+    std::io::stdout().write_all(tally.table().as_bytes()).unwrap();
     assert!(tally.made[&move_kind::INTER] > 600);
     assert_eq!(tally.other.len(), 3);
 }

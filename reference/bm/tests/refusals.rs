@@ -338,17 +338,45 @@ fn no_site_before_unfit_before_private() {
     assert_eq!(ends("site", "site", "c"), 18);
 }
 
+/// A box with this many starting sites, which exposes one more.
+fn exposing(sites: usize) -> String {
+    let names: String = (0..sites).map(|at| format!("s{at} ")).collect();
+    let sites: String = (0..sites).map(|at| format!("site s{at} {{c}} ")).collect();
+    format!("free c {names} exposed e box {sites} expose e {{c}}.0")
+}
+
 #[test]
 fn full_before_spent() {
-    let sites: String = (0..16).map(|at| format!("site s{at} {{c}} ")).collect();
-    let names: String = (0..16).map(|at| format!("s{at} ")).collect();
-    let full = format!("free c {names} exposed e box {sites} expose e {{c}}.0");
     let spent = |words: &mut [u32]| words[0] = 65_535;
-    assert_eq!(last_answer(&full, spent, &[[5, 0, 0, 0, 0]]), 19);
-    assert_eq!(last_answer(&full, unchanged, &[[5, 0, 0, 0, 0]]), 19);
-    let room = "free c x exposed e box site x {c} expose e {c}.0";
-    assert_eq!(last_answer(room, spent, &[[5, 0, 0, 0, 0]]), 20);
-    assert_eq!(last_answer(room, unchanged, &[[5, 0, 0, 0, 0]]), 0);
+    let expose = [[5, 0, 0, 0, 0]];
+    assert_eq!(last_answer(&exposing(16), spent, &expose), 19);
+    assert_eq!(last_answer(&exposing(16), unchanged, &expose), 19);
+    assert_eq!(last_answer(&exposing(15), spent, &expose), 20);
+    assert_eq!(last_answer(&exposing(15), unchanged, &expose), 0);
+}
+
+/// Hide needs a shown site of the box, unhide a hidden one.
+#[test]
+fn switches_need_their_site() {
+    let hide = [6, 0, 0, 0, 0];
+    let unhide = [7, 0, 0, 0, 0];
+    let boxed = |site: &str, process: &str| {
+        format!("free x z c u box {site} x {{c}} {process} box site u {{c}} 0")
+    };
+    for (site, process, moves, answer) in [
+        ("site", "hide x.0", &[hide][..], 0),
+        ("site", "hide x.hide x.0", &[hide, hide], 16),
+        ("site", "hide x.unhide x.0", &[hide, unhide], 0),
+        ("site", "unhide x.0", &[unhide], 16),
+        ("hidden", "hide x.0", &[hide], 16),
+        ("hidden", "unhide x.0", &[unhide], 0),
+        ("site", "hide z.0", &[hide], 16),
+        ("site", "hide u.0", &[hide], 16),
+        ("site", "unhide z.0", &[unhide], 16),
+        ("site", "hide x.0", &[unhide], 14),
+    ] {
+        assert_eq!(last_answer(&boxed(site, process), unchanged, moves), answer, "{process}");
+    }
 }
 
 /// What is private is the held name, not the name that the line sends: a

@@ -7,12 +7,12 @@ use mathlib.Core.Option.{Option, none, some}
 use Prim.Native.Nat.{ℕ, _+_, _<_}
 use native.Mathlib.Omega.{arith}
 use lib.Dec.{T}
 use Rattle.definitions.specs.Bounded.{_and_, _is_, _isnt_, _below_, faultIf}
 use Rattle.definitions.specs.Model.{Line, Box, Model, boxAt, boxCount, kind, nil, parallel, replication, restriction, output as opOutput, input as opInput, expose as opExpose, hide as opHide, unhide as opUnhide}
 use Rattle.definitions.specs.Record.{held, heldNumber, stampLimit, stamp, threads, sites, site, thread, subject, flag, setStamp, putThread, pushThread, takeThread, putSite, pushSite, setFlag, goto, recordOf, putRecord}
 use Rattle.definitions.specs.Start.{typeWords}
 use Rattle.definitions.specs.Moves.{Inside, drop, spread, new, copy, expose, hide, unhide, intra, Kind, inside, inter, unknown, kindOfMove, Move, Outcome, refused, made, Ends, need, onMade, siteWith, typesShare, valueIn, lineOf, onward, onwardWith, value1, value2, atLine, dropMove, spreadMove, newMove, copyMove, exposeMove, turnMove, intraMove, insideMove, interSites, interMove, insideAct, interAct, act}
-use Rattle.definitions.proofs.Bounded.{tests, and-iff, is-iff, first-found}
+use Rattle.definitions.proofs.Bounded.{tests, first-found, fault-some}
 
 -- ---- a refused move is not made; what a test in front of a move shows
 
@@ -40,14 +40,6 @@ pub record SiteFound (r : List ℕ) (v f i : ℕ) : Type 0 where
   pub low : i < 16
   pub subjectIs : subject (site r i) ≡ v
   pub flagIs : flag (site r i) ≡ f
-
-fault-some : {A : Type 0} (b : Bool) (a c : A) → faultIf b a ≡ some c → T b × (a ≡ c)
-fault-some true a c e = (tt, cc)
-fault-some {A} false a c e = absurd (subst (λ (o : Option A). code o) e tt)
-  where
-    code : Option A → Type 0
-    code none = Unit
-    code (some a) = ⊥
 
 pub site-found : (r : List ℕ) (v f i : ℕ) → siteWith r v f ≡ some i → SiteFound r v f i
 unfolding siteWith

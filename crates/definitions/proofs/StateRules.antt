@@ -10,19 +10,14 @@ use native.Mathlib.Decide.{ℕ-discrete}
 use lib.Dec.{T}
 use lib.ListN.{length}
 use lib.Seq.{ext-getD}
 use Rattle.definitions.specs.Bounded.{_and_, _or_, _implies_, _is_, _isnt_, _below_, _upto_, allBelow}
 use Rattle.definitions.specs.Slots.{word, zeros}
 use Rattle.definitions.specs.Model.{Box, Model, boxAt, lineCount, boxCount, listed, kind, boundAbove, owner}
 use Rattle.definitions.specs.Record.{heldNumber, heldStamp, stampLimit, stamp, threads, sites, site, thread, subject, flag, typeWord, line, binding, stateLength, recordOf, lastStamps}
 use Rattle.definitions.specs.StateRules.{clear, slotsFit, stampFits, heldFits, typeHeld, siteHeld, threadHeld, recordFits, stateFits}
-use Rattle.definitions.proofs.Bounded.{tests, and-iff, or-iff, is-iff, below-iff, upto-iff, decide, true-of, of-true, false-of, not-false}
+use Rattle.definitions.proofs.Bounded.{choice-iff, tests, and-iff, or-iff, is-iff, below-iff, upto-iff, decide, true-of, of-true, false-of, not-false}
 use Rattle.definitions.proofs.Slots.{length-zeros, word-zeros}
 use Rattle.definitions.proofs.Arrays.{Array, Differ}
-
--- a choice by a test: the first where it holds, the second where it fails
-pub choice-iff : (c a b : Bool) → T (elim c [ true ↦ a | false ↦ b ]) ↔ ((T c → T a) × ((T c → ⊥) → T b))
-choice-iff true a b = (λ t. (λ _. t, λ f. absurd (f tt)), λ p. p .0 tt)
-choice-iff false a b = (λ t. (λ f. absurd f, λ _. t), λ p. p .1 (λ f. f))
 
 pub clear-iff : (n : ℕ) (x : List ℕ) → T (clear n x) ↔ (x ≡ zeros n)
 unfolding clear

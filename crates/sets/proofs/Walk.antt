@@ -1,0 +1,156 @@
+-- A walk over the members of a set by `first` and `rest`: what is left of the set gives the answer of the whole. Each premise of the loop's laws
+-- is a fact that the code has: n is what `first` gives, b what the test gives there, t what `rest` gives. Assumes nothing.
+use mathlib.Core.Path.{_≡_, refl, sym, ap, subst, _∙_}
+use mathlib.Core.Bool.{Bool, true, false}
+use mathlib.Core.Logic.{⊎-elim}
+use mathlib.Core.Option.{Option, none, some}
+use Prim.Native.Nat.{ℕ, _+_, _-_, _%_, _^_, _<_}
+use native.Mathlib.Nat.{lt-of-le-of-lt, lt-trans, eq-zero-or-pos}
+use native.Mathlib.Omega.{arith}
+use native.Mathlib.Decide.{ℕ-discrete}
+use borrow.Author.Needs.{needs}
+use borrow.Author.Tests.{not-true, not-false as not-not}
+use lib.Dec.{T}
+use lib.Bits.{bitAnd, and-zero-l, and-le-r}
+use lib.Count.{trailingZeros, trailing-of-zero}
+use Rattle.definitions.specs.Bounded.{_and_, _isnt_}
+use Rattle.definitions.specs.Sets.{has, forEach, forSome, lowest}
+use Rattle.definitions.proofs.Bounded.{and-iff, isnt-iff, true-of, of-true, false-of, not-false, same-test}
+use Rattle.definitions.proofs.Sets.{has-none, has-rest, low-set, lowest-empty, lowest-word, forEach-iff, forSome-iff}
+use Rattle.sets.specs.Lowest.{firstOf, RestOf}
+
+-- ---- `first` and `rest`
+
+some-or : Option ℕ → ℕ
+some-or o = elim o [ none ↦ 64 | some n ↦ n ]
+
+pub first-word : (s : ℕ) → s < 2 ^ 64 → trailingZeros 64 s ≡ firstOf s
+unfolding firstOf some-or
+first-word s h =
+    ⊎-elim (λ e. ap (trailingZeros 64) e ∙ trailing-of-zero 64 ∙ sym (ap some-or (lowest-empty s e)))
+    (λ p. sym (ap some-or (lowest-word s h (λ e. omega arith)))) (eq-zero-or-pos s)
+
+pub first-lowest : (s n : ℕ) → s < 2 ^ 64 → (s ≡ 0 → ⊥) → n ≡ firstOf s → some n ≡ lowest s (λ m. true)
+first-lowest s n h z e = ap some (e ∙ sym (first-word s h)) ∙ sym (lowest-word s h z)
+
+pub rest-word : (s d : ℕ) → s < 2 ^ 64 → d < 2 ^ 64 → (d + 1) % 2 ^ 64 ≡ s → RestOf s (bitAnd s d)
+unfolding _and_
+rest-word s d h k e = ⊎-elim empty full (eq-zero-or-pos s)
+  where
+    empty : s ≡ 0 → RestOf s (bitAnd s d)
+    empty z =
+        record {
+          members = λ m.
+              ap (λ (x : ℕ). has (bitAnd x d) m) z ∙ ap (λ (x : ℕ). has x m) (and-zero-l d) ∙ has-none m
+              ∙ sym (ap (λ (b : Bool). b and firstOf s isnt m) (ap (λ (x : ℕ). has x m) z ∙ has-none m));
+          less = λ p. absurd (omega arith);
+        }
+
+    full : 0 < s → RestOf s (bitAnd s d)
+    full p =
+        let q : d ≡ s - 1 = omega arith in
+        record {
+          members = λ m.
+              ap (λ (x : ℕ). has (bitAnd s x) m) q ∙ has-rest s m p h ∙ ap (λ (x : ℕ). has s m and x isnt m) (first-word s h);
+          less = λ _. lt-of-le-of-lt (and-le-r s d) (omega arith);
+        }
+
+-- ---- the walk
+
+pub first-in : (s n : ℕ) → s < 2 ^ 64 → (s ≡ 0 → ⊥) → n ≡ firstOf s → T (has s n)
+first-in s n h z e =
+    subst (λ (m : ℕ). T (has s m)) (first-word s h ∙ sym e) (of-true (low-set 64 s (omega arith) h .1))
+
+pub first-below : (s n : ℕ) → s < 2 ^ 64 → (s ≡ 0 → ⊥) → n ≡ firstOf s → n < 64
+first-below s n h z e = subst (λ (m : ℕ). m < 64) (first-word s h ∙ sym e) (low-set 64 s (omega arith) h .0)
+
+pub walk-less : (s t : ℕ) → (s ≡ 0 → ⊥) → RestOf s t → t < s
+walk-less s t z r = r .less (omega arith)
+
+-- what holds of the lowest member and of each member of the rest holds of each member, and back
+rest-each : (s t n : ℕ) → n ≡ firstOf s → RestOf s t → (Q : ℕ → Type 0) → Q n → ((j : ℕ) → T (has t j) → Q j) → (j : ℕ) → T (has s j) → Q j
+rest-each s t n e r Q q f j u = pick (ℕ-discrete n j)
+  where
+    pick : Dec (n ≡ j) → Q j
+    pick (yes k) = subst Q k q
+    pick (no k) =
+        f j (of-true (r .members j ∙ true-of (has s j and firstOf s isnt j)
+        (and-iff (has s j) (firstOf s isnt j) .1 (u, isnt-iff (firstOf s) j .1 (λ (l : firstOf s ≡ j). k (e ∙ l))))))
+
+rest-in : (s t : ℕ) → RestOf s t → (j : ℕ) → T (has t j) → T (has s j)
+rest-in s t r j u = and-iff (has s j) (firstOf s isnt j) .0 (of-true (sym (r .members j) ∙ true-of (has t j) u)) .0
+
+-- what is left of s gives the answer that s gives
+pub record EachLeft (p : ℕ → Bool) (s left : ℕ) : Type 0 where
+  pub fit : left < 2 ^ 64
+  pub same : forEach left p ≡ forEach s p
+
+pub record SomeLeft (p : ℕ → Bool) (s left : ℕ) : Type 0 where
+  pub fit : left < 2 ^ 64
+  pub same : forSome left p ≡ forSome s p
+
+module _ (p : ℕ → Bool) (s : ℕ) where
+  pub each-start : s < 2 ^ 64 → EachLeft p s s
+  each-start h = record { fit = h; same = refl }
+
+  pub some-start : s < 2 ^ 64 → SomeLeft p s s
+  some-start h = record { fit = h; same = refl }
+
+  pub each-end : (left : ℕ) → EachLeft p s left → left ≡ 0 → true ≡ forEach s p
+  each-end left w z =
+      sym
+      (true-of (forEach left p)
+      (forEach-iff left p .1 (λ j l t. absurd (not-false (ap (λ (x : ℕ). has x j) z ∙ has-none j) t))))
+      ∙ w .same
+
+  pub some-end : (left : ℕ) → SomeLeft p s left → left ≡ 0 → false ≡ forSome s p
+  some-end left w z =
+      sym
+      (false-of (forSome left p)
+      (λ t. let x = forSome-iff left p .0 t in not-false (ap (λ (y : ℕ). has y (x .0)) z ∙ has-none (x .0)) (x .2)))
+      ∙ w .same
+
+  pub each-stop : (left n : ℕ) (b : Bool) → EachLeft p s left → (left ≡ 0 → ⊥) → n ≡ firstOf left → b ≡ p n → b ≡ false
+      → false ≡ forEach s p
+  each-stop left n b w z e is f =
+      sym
+      (false-of (forEach left p)
+      (λ t. not-false (sym is ∙ f) (forEach-iff left p .0 t n (first-below left n (w .fit) z e) (first-in left n (w .fit) z e))))
+      ∙ w .same
+
+  pub some-stop : (left n : ℕ) (b : Bool) → SomeLeft p s left → (left ≡ 0 → ⊥) → n ≡ firstOf left → b ≡ p n → b ≡ true
+      → true ≡ forSome s p
+  some-stop left n b w z e is t =
+      sym
+      (true-of (forSome left p)
+      (forSome-iff left p .1 (n, first-below left n (w .fit) z e, first-in left n (w .fit) z e, of-true (sym is ∙ t))))
+      ∙ w .same
+
+  pub each-turn : (left t n : ℕ) (b : Bool) → EachLeft p s left → (left ≡ 0 → ⊥) → RestOf left t → n ≡ firstOf left → b ≡ p n → b ≡ true
+      → EachLeft p s t
+  each-turn left t n b w z r e is q =
+      record { fit = lt-trans (walk-less left t z r) (w .fit); same = same-test (forEach t p) (forEach left p) up down ∙ w .same }
+    where
+      up : T (forEach t p) → T (forEach left p)
+      up u =
+          forEach-iff left p .1
+          (λ j l v. rest-each left t n e r (λ i. i < 64 → T (p i)) (λ _. of-true (sym is ∙ q)) (λ i h g. forEach-iff t p .0 u i g h) j v l)
+
+      down : T (forEach left p) → T (forEach t p)
+      down u = forEach-iff t p .1 (λ j l v. forEach-iff left p .0 u j l (rest-in left t r j v))
+
+  pub some-turn : (left t n : ℕ) (b : Bool) → SomeLeft p s left → (left ≡ 0 → ⊥) → RestOf left t → n ≡ firstOf left → b ≡ p n → b ≡ false
+      → SomeLeft p s t
+  some-turn left t n b w z r e is q =
+      record { fit = lt-trans (walk-less left t z r) (w .fit); same = same-test (forSome t p) (forSome left p) up down ∙ w .same }
+    where
+      up : T (forSome t p) → T (forSome left p)
+      up u = let x = forSome-iff t p .0 u in forSome-iff left p .1 (x .0, x .1, rest-in left t r (x .0) (x .2), x .3)
+
+      down : T (forSome left p) → T (forSome t p)
+      down u =
+          let x = forSome-iff left p .0 u in
+          rest-each left t n e r (λ i. i < 64 → T (p i) → T (forSome t p)) (λ _ y. absurd (not-false (sym is ∙ q) y))
+          (λ i h g y. forSome-iff t p .1 (i, g, h, y)) (x .0) (x .2) (x .1) (x .3)
+
+pub ruleset walks = (needs, not-true, not-not, first-below, walk-less, each-start, each-turn, each-stop, each-end, some-start, some-turn, some-stop, some-end)

@@ -1,0 +1,51 @@
+//! The block check, both ways, on random images of every length.
+
+use bm::block::{self, BLOCK};
+use bm::cases::rng::Rng;
+
+use crate::{proved, timing};
+
+/// How many images are tried.
+const IMAGES: u64 = 20_000;
+
+/// The check of block `k`, or 0 where the image has no such block whole.
+fn expected(image: &[u8], k: usize) -> u64 {
+    let Some(start) = k.checked_mul(BLOCK) else { return 0 };
+    let block = image.get(start..).and_then(|rest| rest.first_chunk::<BLOCK>());
+    block.map_or(0, block::check)
+}
+
+/// The number of answers that differ.
+pub fn compare() -> u64 {
+    let mut differences = 0;
+    for case in 0..IMAGES {
+        let mut rng = Rng::for_case(7, case);
+        let len = rng.below(4 * BLOCK);
+        let image: Vec<u8> = (0..len).map(|_| rng.word() as u8).collect();
+        for k in [0, 1, 2, 3, 4, usize::MAX, usize::MAX / BLOCK] {
+            let right = expected(&image, k);
+            differences += u64::from(proved::block_check(&image, k) != right);
+            differences += u64::from(proved::stepped_check(&image, k) != right);
+        }
+    }
+    println!("block check: {IMAGES} images, {} answers", IMAGES * 14);
+    differences
+}
+
+/// A plain loop over the words, as the format describes the check.
+fn plain(block: &[u8; BLOCK]) -> u64 {
+    let (words, _) = block[..504].as_chunks::<8>();
+    words.iter().fold(1u64, |c, word| c.wrapping_mul(31).wrapping_add(u64::from_le_bytes(*word)))
+}
+
+pub fn bench() {
+    let mut rng = Rng::new(1);
+    let image: Vec<u8> = (0..BLOCK).map(|_| rng.word() as u8).collect();
+    let block: &[u8; BLOCK] = image.first_chunk().expect("one block");
+    let rust = timing::nanos(|| plain(std::hint::black_box(block)));
+    let table = timing::nanos(|| proved::block_check(std::hint::black_box(&image), 0));
+    let steps = timing::nanos(|| proved::stepped_check(std::hint::black_box(&image), 0));
+    timing::line("block check by the table, 512 bytes", table, rust);
+    timing::line("block check step by step, 512 bytes", steps, rust);
+    println!("block check by the table: {:.2} GB/s", BLOCK as f64 / table);
+}
