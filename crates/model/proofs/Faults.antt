@@ -281,9 +281,9 @@ module _ (block : List ℕ) (names : ℕ) where
   kinds-end n p l = sym (true-of _ (simp tests (λ i h q. p .fit i (omega arith))))
 
 module _ (block : List ℕ) (h : Heading) (names boxes : ℕ) (w : names ≡ dataWord block 0) where
-  pub head-many : 60 < names → false ≡ headCounts block
+  pub head-many : (limit : ℕ) → limit < names → 60 ≤ limit → false ≡ headCounts block
   unfolding headCounts
-  head-many l = sym (false-of _ (λ t. let p = simp tests at t in absurd (omega (arith, p .0 .0 .1))))
+  head-many limit l h = sym (false-of _ (λ t. let p = simp tests at t in absurd (omega (arith, p .0 .0 .1))))
 
   pub head-test : (a b c kinds : Bool) → h ≡ headingOf block → boxes ≡ dataWord block 1
       → kinds ≡ kindsFit block names
