@@ -92,7 +92,8 @@ pub fn compare() -> u64 {
         let case = &pairs[rng.below(pairs.len())];
         let (mut model, mut estimate) = (case.model.clone(), case.estimate.clone());
         for _ in 0..rng.between(1, 3) {
-            damage(&mut rng, if rng.percent(60) { &mut model } else { &mut estimate });
+            let image = if rng.percent(60) { &mut model } else { &mut estimate };
+            damage(&mut rng, image);
         }
         found += differences(&model, &estimate, rng.below(9) as u32);
     }

@@ -2,6 +2,7 @@
 //! a failure where two differ; `compare bench` prints times of both in one run, as ratios, and judges nothing.
 
 mod checks;
+mod images;
 mod proved;
 mod timing;
 
@@ -13,7 +14,7 @@ fn main() -> ExitCode {
         checks::bench();
         return ExitCode::SUCCESS;
     }
-    let differences = checks::compare();
+    let differences = checks::compare() + images::compare();
     println!("{differences} differences");
     if differences == 0 { ExitCode::SUCCESS } else { ExitCode::FAILURE }
 }

@@ -1,22 +1,22 @@
 -- `capi::bm_stepped_check` meets its contract. Assumes nothing.
-use Rattle.capi.proofs.Laws.{packed}
+use Rattle.capi.proofs.Laws.{packs}
 use Rattle.capi.proofs.bm_stepped_check.Statement.{statement}
 use Rattle.capi.proofs.bm_stepped_check.Tie as tie
 
 stepped-check-requires : tie.Need-stepped-check-requires
-stepped-check-requires c κs = search packed
+stepped-check-requires c κs = search packs
 
 enum-known-c : tie.Need-enum-known-c
-enum-known-c c = search packed
+enum-known-c c = search packs
 
 enum-told : tie.Need-enum-told
-enum-told c = search packed
+enum-told c = search packs
 
 returns : tie.Need-returns
-returns c = search packed
+returns c = search packs
 
 returns-2 : tie.Need-returns-2
-returns-2 c = search packed
+returns-2 c = search packs
 
 pub bm-stepped-check-spec : {M : Type 1} → statement M
 bm-stepped-check-spec =

@@ -1,0 +1,16 @@
+-- `capi::bm_shut_off` meets its contract, case by case. Assumes nothing.
+use Rattle.capi.proofs.Laws.{packs}
+use Rattle.capi.proofs.bm_shut_off.Statement.{statement}
+use Rattle.capi.proofs.bm_shut_off.Tie as tie
+
+shut-off-requires : tie.Need-shut-off-requires
+shut-off-requires c κs = search packs
+
+of-reply-requires : tie.Need-of-reply-requires
+of-reply-requires c κs = search packs
+
+returns : tie.Need-returns
+returns c = search packs
+
+pub bm-shut-off-spec : {M : Type 1} → statement M
+bm-shut-off-spec = tie.close (tie.spec shut-off-requires of-reply-requires returns)
