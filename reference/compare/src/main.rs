@@ -4,6 +4,7 @@
 mod checks;
 mod images;
 mod proved;
+mod speed;
 mod timing;
 
 use std::process::ExitCode;
@@ -12,6 +13,7 @@ fn main() -> ExitCode {
     let bench = std::env::args().nth(1).is_some_and(|word| word == "bench");
     if bench {
         checks::bench();
+        speed::bench();
         return ExitCode::SUCCESS;
     }
     let differences = checks::compare() + images::compare();
