@@ -59,13 +59,13 @@ fn each_line(
     requires { ⌜ Ready (now model) (now estimate) × Needs (now estimate) boxes (now t) × (boxes ≡ boxesOf (now model)) × (b < boxes) × (k ≡ sitesBlock (now model) b) × (total ≡ linesOf (now model) b) ⌝ }
     ensures { λ r. ⌜ foundIn r ≡ firstBelow total (lineBroken (modelOf (now (model .entry))) (estimateOf (now (estimate .entry))) b) ⌝ }
 {
-    let mut i = 0;
-    while i < total {
-        let f = lines::line(model, estimate, t, boxes, k, b, i);
+    let mut j = 0;
+    while j < total {
+        let f = lines::line(model, estimate, t, boxes, k, b, j);
         if let Found::First(_) = f {
             return f;
         }
-        i += 1;
+        j += 1;
     }
     Found::Nothing
 }

@@ -9,10 +9,10 @@ use Rattle.analysis.proofs.walks.each_line.Statement.{statement}
 use Rattle.analysis.proofs.walks.each_line.Tie as tie
 
 abbrev Inv-loop : tie.InvT-loop
-Inv-loop model estimate t boxes k b total i₀ i = Passed total (lineBroken (modelOf model) (estimateOf estimate) b) i
+Inv-loop model estimate t boxes k b total j₀ j = Passed total (lineBroken (modelOf model) (estimateOf estimate) b) j
 
 abbrev μ-loop : tie.MeasureT-loop
-μ-loop model estimate t boxes k b total i₀ i = total - i
+μ-loop model estimate t boxes k b total j₀ j = total - j
 
 loop-holds : tie.Need-loop-holds Inv-loop μ-loop
 loop-holds c = search firsts
@@ -29,8 +29,8 @@ returns c = search firsts
 enum-told-2 : tie.Need-enum-told-2 Inv-loop μ-loop
 enum-told-2 c = search firsts
 
-add-i : tie.Need-add-i Inv-loop μ-loop
-add-i c = search firsts
+add-j : tie.Need-add-j Inv-loop μ-loop
+add-j c = search firsts
 
 loop-less : tie.Need-loop-less Inv-loop μ-loop
 loop-less c = search firsts
@@ -52,7 +52,7 @@ each-line-spec =
     enum-told
     returns
     enum-told-2
-    add-i
+    add-j
     loop-less
     loop-again
     returns-2)
