@@ -95,15 +95,16 @@ pub fits-both : (p part buffer out : List ℕ) (n : ℕ) → part ≡ p → leng
     → out ≡ take (length part) part ++ drop (length part) buffer → (n ≡ copiedCount p buffer) × (out ≡ copied p buffer)
 unfolding copiedCount copied count-by bytes-by
 fits-both p part buffer out n e h l q =
-    let t : (length p upto length buffer) ≡ true = true-of (length p upto length buffer) (upto-iff (length p) (length buffer) .1 (omega (arith, ap length e))) in
-    (l ∙ ap length e ∙ sym (ap (count-by p) t),
-    q ∙ ap₂ _++_ (take-length part ∙ e) (ap (λ (x : List ℕ). drop (length x) buffer) e) ∙ sym (ap (bytes-by p buffer) t))
+    let t : (length p upto length buffer) ≡ true = true-of (length p upto length buffer) (upto-iff (length p) (length buffer) .1 (omega (arith, ap length e))) in (
+      l ∙ ap length e ∙ sym (ap (count-by p) t),
+      q ∙ ap₂ _++_ (take-length part ∙ e) (ap (λ (x : List ℕ). drop (length x) buffer) e) ∙ sym (ap (bytes-by p buffer) t),
+    )
 
 pub long-both : (p part buffer : List ℕ) → part ≡ p → length buffer < length part → (1024 ≡ copiedCount p buffer) × (buffer ≡ copied p buffer)
 unfolding copiedCount copied count-by bytes-by
 long-both p part buffer e h =
     let t : (length p upto length buffer) ≡ false =
-      false-of (length p upto length buffer) (λ u. let q = upto-iff (length p) (length buffer) .0 u in omega (arith, ap length e)) in
+    false-of (length p upto length buffer) (λ u. let q = upto-iff (length p) (length buffer) .0 u in omega (arith, ap length e)) in
     (sym (ap (count-by p) t), sym (ap (bytes-by p buffer) t))
 
 pub ruleset packs = (needs, number-is, number-none, model-held, of-accepted, checked, of-nobody, of-yes, of-no, asked)
