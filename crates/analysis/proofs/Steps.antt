@@ -42,6 +42,9 @@ module _ (f : Found) where
   pub first-else : (x y : Option cl.Broken) (a : Broken) → foundIn f ≡ x → f ≡ First a → foundIn f ≡ orElse x y
   first-else x y a e q = ap foundIn q ∙ else-stop x y (brokenIn a) (sym (ap foundIn q) ∙ e)
 
+  pub nothing-else : (y : Option cl.Broken) → f ≡ Nothing → y ≡ orElse (foundIn f) y
+  nothing-else y q = sym (ap (λ (g : Found). orElse (foundIn g) y) q)
+
   pub first-of : (n : ℕ) (g : ℕ → Option cl.Broken) (i : ℕ) (a : Broken) → Passed n g i → i < n → foundIn f ≡ g i → f ≡ First a
       → foundIn f ≡ firstBelow n g
   first-of n g i a p l e q = ap foundIn q ∙ passed-stop n g i (brokenIn a) p l (sym (ap foundIn q) ∙ e)
@@ -57,6 +60,10 @@ fault-no ok x e = sym (ap (λ (b : Bool). faultIf (not b) x) e)
 -- the test is what a called function answered
 pub fault-as : (ok c : Bool) (x : cl.Broken) (r : Option cl.Broken) → r ≡ faultIf (not ok) x → ok ≡ c → r ≡ faultIf (not c) x
 fault-as ok c x r e q = e ∙ ap (λ (b : Bool). faultIf (not b) x) q
+
+-- the two answers are what called functions gave
+pub else-as : (x y v w r : Option cl.Broken) → r ≡ orElse x y → x ≡ v → y ≡ w → r ≡ orElse v w
+else-as x y v w r e f g = e ∙ ap₂ orElse f g
 
 -- ---- clause 1
 
@@ -209,9 +216,9 @@ line-is model estimate t boxes k b i l r ready needed count inside at h el q =
 pub needs-size : (estimate : List ℕ) (boxes : ℕ) (t : List ℕ) → Needs estimate boxes t → length t ≡ 512
 needs-size estimate boxes t n = n .size
 
--- a box is inside, by the count that was read
-pub inside-of : (image : List ℕ) (b boxes : ℕ) → boxes ≡ boxesOf image → b < boxes → b < boxesOf image
-inside-of image b boxes e h = rw e at h
+-- a box is inside, by a count that is the same
+pub inside-of : (n b count : ℕ) → count ≡ n → b < count → b < n
+inside-of n b count e h = rw e at h
 
 -- ---- a box: its sites, then its lines
 
@@ -289,7 +296,7 @@ pub ruleset clauses-1 = (needs, fails, holds, name-62, name-fits, ready-512, fau
 
 pub ruleset sites-2 = (needs, eps-there, site-there, site-31, site-62, site-is)
 
-pub ruleset inputs = (needs, fault-as, nothing, first-else, else-go)
+pub ruleset inputs = (needs, fault-as, else-as, nothing-else, first-else)
 
 pub ruleset arms = (needs, small-rho, arm-3, arm-4, arm-5, arm-6, arm-7, arm-8, arm-none)
 

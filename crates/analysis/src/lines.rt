@@ -60,16 +60,24 @@ pub fn site(model: &[u8], estimate: &[u8], k: usize, b: usize, i: usize) -> Foun
     )
 }
 
+// What the first of two tests found, else what the second did.
+fn earlier(one: Found, two: Found) -> Found
+    ensures { λ r. ⌜ foundIn r ≡ orElse (foundIn one) (foundIn two) ⌝ }
+{
+    match one {
+        Found::Nothing => two,
+        Found::First(_) => one,
+    }
+}
+
 // Clauses 5 and 6, where s is rho of the channel and q is rho of what is bound.
 fn input(estimate: &[u8], t: &[u64; 512], b: usize, i: usize, s: u64, q: u64) -> Found
     requires { ⌜ (512 * (3 + 2 * b) ≤ length (now estimate)) × (b < 8) × Few s × (length (now t) ≡ 512) ⌝ }
     ensures { λ r. ⌜ foundIn r ≡ orElse (faultIf (not (receivedIn (estimateOf (now (estimate .entry))) b s q)) (broken 5 b i)) (faultIf (not (crossedIn (now (t .entry)) b s q)) (broken 6 b i)) ⌝ }
 {
-    let f = unless(clauses::walks::received(estimate, b, s, q), 5, b, i);
-    if let Found::First(_) = f {
-        return f;
-    }
-    unless(clauses::walks::crossed(t, b, s, q), 6, b, i)
+    let five = unless(clauses::walks::received(estimate, b, s, q), 5, b, i);
+    let six = unless(clauses::walks::crossed(t, b, s, q), 6, b, i);
+    earlier(five, six)
 }
 
 // The clauses of a line of box b, by its operation.

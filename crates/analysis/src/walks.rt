@@ -10,7 +10,7 @@ ghost use Rattle.definitions.specs.Estimate.{estimateOf};
 ghost use Rattle.definitions.specs.Clauses.{siteBroken, lineBroken, boxBroken, firstBroken};
 ghost use Rattle.definitions.specs.ShutOff as shut;
 ghost use Rattle.model.specs.Holds.{OfKind, Holds};
-ghost use Rattle.clauses.specs.Asks.{Small, Needs};
+ghost use Rattle.clauses.specs.Asks.{Small, Types, Needs};
 ghost use Rattle.analysis.specs.Answers.{foundIn};
 ghost use Rattle.analysis.specs.Tests.{Ready, nameBroken};
 use crate::Found;
@@ -86,13 +86,12 @@ fn one_box(model: &[u8], estimate: &[u8], t: &[u64; 512], layout: Layout, b: usi
     each_line(model, estimate, t, layout.boxes, k, b, counts[b])
 }
 
-fn each_box(model: &[u8], estimate: &[u8], t: &[u64; 512], layout: Layout) -> Found
-    requires { ⌜ Ready (now model) (now estimate) × Holds (now model) layout × Needs (now estimate) (layout .boxes) (now t) ⌝ }
-    ensures { λ r. ⌜ foundIn r ≡ firstBelow (layout .boxes) (boxBroken (modelOf (now (model .entry))) (estimateOf (now (estimate .entry)))) ⌝ }
+fn each_box(model: &[u8], estimate: &[u8], t: &[u64; 512], layout: Layout, count: usize) -> Found
+    requires { ⌜ Ready (now model) (now estimate) × Holds (now model) layout × Needs (now estimate) (layout .boxes) (now t) × (count ≡ layout .boxes) ⌝ }
+    ensures { λ r. ⌜ foundIn r ≡ firstBelow count (boxBroken (modelOf (now (model .entry))) (estimateOf (now (estimate .entry)))) ⌝ }
 {
-    let boxes = layout.boxes;
     let mut b = 0;
-    while b < boxes {
+    while b < count {
         let f = one_box(model, estimate, t, layout, b);
         if let Found::First(_) = f {
             return f;
@@ -111,8 +110,9 @@ pub fn first_broken(model: &[u8], estimate: &[u8], layout: Layout) -> Found
     if let Found::First(_) = f {
         return f;
     }
-    let t = clauses::gather::needs(estimate, layout.boxes);
-    each_box(model, estimate, &t, layout)
+    let mut t = [0u64; 512];
+    clauses::gather::needs(estimate, layout.boxes, &mut t);
+    each_box(model, estimate, &t, layout, layout.boxes)
 }
 
 // Box h is linked to no other box.
@@ -120,9 +120,10 @@ pub fn shut_off(estimate: &[u8], boxes: usize, h: usize) -> bool
     requires { ⌜ Small (now estimate) boxes × (h < boxes) ⌝ }
     ensures { λ r. ⌜ r ≡ shut.shutOff (estimateOf (now (estimate .entry))) boxes h ⌝ }
 {
+    let own = clauses::links::types(estimate, boxes, h);
     let mut k = 0;
     while k < boxes {
-        if !apart(estimate, boxes, h, k) {
+        if !apart(estimate, boxes, h, own, k) {
             return false;
         }
         k += 1;
@@ -130,14 +131,14 @@ pub fn shut_off(estimate: &[u8], boxes: usize, h: usize) -> bool
     true
 }
 
-// Box k is box h, or not linked to it.
-fn apart(estimate: &[u8], boxes: usize, h: usize, k: usize) -> bool
-    requires { ⌜ Small (now estimate) boxes × (h < boxes) × (k < boxes) ⌝ }
+// Box k is box h, or not linked to it; own is the union of box h's types.
+fn apart(estimate: &[u8], boxes: usize, h: usize, own: u64, k: usize) -> bool
+    requires { ⌜ Small (now estimate) boxes × Types (estimateOf (now estimate)) h (estimateOf (now estimate) .shown h) own × (k < boxes) ⌝ }
     ensures { λ r. ⌜ r ≡ (k isnt h implies not (shut.linked (estimateOf (now (estimate .entry))) h k)) ⌝ }
 {
     if k == h {
         true
     } else {
-        !clauses::walks::linked(estimate, boxes, h, k)
+        !clauses::links::linked(estimate, boxes, h, own, k)
     }
 }

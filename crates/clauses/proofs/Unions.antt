@@ -1,9 +1,9 @@
 -- A set holds each of several exactly when it holds their union: what clause 6 asks is gathered so. Assumes nothing.
-use mathlib.Core.Path.{_≡_, refl, sym, ap, ap₂, _∙_}
-use mathlib.Core.Bool.{Bool, true, false, not}
+use mathlib.Core.Path.{_≡_, refl, sym, ap, _∙_}
+use mathlib.Core.Bool.{Bool, true, false}
 use mathlib.Core.List.{List}
-use mathlib.Core.Logic.{_↔_, _⊎_, inl, inr, ⊎-elim}
-use Prim.Native.Nat.{ℕ, _+_, _-_, _*_, _/_, _%_, _^_, _≤_, _<_, zero-le}
+use mathlib.Core.Logic.{_⊎_, inl, inr, ⊎-elim}
+use Prim.Native.Nat.{ℕ, _+_, _*_, _/_, _%_, _^_, _≤_, _<_, zero-le}
 use native.Mathlib.Nat.{not-suc-le-zero, le-antisymm}
 use native.Mathlib.Numerals.{add-one}
 use native.Mathlib.Omega.{arith}
@@ -12,18 +12,17 @@ use borrow.Author.Needs.{needs}
 use lib.Dec.{T}
 use lib.ListN.{length, getD, set, replicate, length-set, length-replicate}
 use lib.Seq.{getD-set-same, getD-set-other}
-use Rattle.definitions.specs.Bounded.{_and_, _or_, _implies_, _is_, _isnt_, _upto_, allBelow}
-use Rattle.definitions.specs.Sets.{has, forEach, within, meets, lowest}
+use Rattle.definitions.specs.Bounded.{_and_, _or_, _implies_, _isnt_, allBelow}
+use Rattle.definitions.specs.Sets.{has, forEach, forSome, within, meets}
 use Rattle.definitions.specs.Estimate.{Estimate, estimateOf}
-use Rattle.definitions.proofs.Bounded.{and-iff, or-iff, isnt-iff, true-of, of-true, false-of, not-false, same-test}
-use Rattle.definitions.proofs.Sets.{has-none, has-below, forEach-iff, within-iff}
+use Rattle.definitions.specs.ShutOff as shut
+use Rattle.definitions.proofs.Bounded.{and-iff, or-iff, implies-iff, isnt-iff, true-of, of-true, false-of, not-false, same-test}
+use Rattle.definitions.proofs.Sets.{or-false, has-none, forEach-iff, forSome-iff, within-iff, within-trans, meets-iff, meets-comm}
 use Rattle.definitions.proofs.Loops.{fails, holds}
-use Rattle.sets.specs.declared.Lowest.{Lowest}
-use Rattle.sets.specs.declared.Lowest.the-variants.{NoMember, Member}
-use Rattle.sets.specs.declared.NameNo.{NameNo}
-use Rattle.sets.specs.Lowest.{lowestOf}
-use Rattle.clauses.specs.Asks.{Small, Asked, Joined, faceAsk, facesAsk, otherAsk, boxesAsk, nameAsk, Needs}
-use Rattle.clauses.proofs.Members.{small-shown, member-62, next-fits, next-less, met, passed, ended}
+use Rattle.sets.specs.Lowest.{firstOf, RestOf}
+use Rattle.sets.proofs.Walk.{Left, left-start, left-turn, walk-less, split-each, split-some, none-each, none-some}
+use Rattle.clauses.specs.Asks.{Few, Small, receivedIn, facesIn, Types, Asked, Joined, faceAsk, sendAsk, facesAsk, otherAsk, boxesAsk, nameAsk, Sends, Needs}
+use Rattle.clauses.proofs.Members.{left-62, small-shown}
 
 -- ---- one union
 
@@ -50,6 +49,22 @@ unfolding _and_
 and-true true = refl
 and-true false = refl
 
+and-assoc : (a b c : Bool) → (a and b and c) ≡ (a and (b and c))
+unfolding _and_
+and-assoc true b c = refl
+and-assoc false b c = refl
+
+or-assoc : (a b c : Bool) → (a or b or c) ≡ (a or (b or c))
+unfolding _or_
+or-assoc true b c = refl
+or-assoc false b c = refl
+
+forSome-cong : (s : ℕ) (p q : ℕ → Bool) → ((n : ℕ) → p n ≡ q n) → forSome s p ≡ forSome s q
+forSome-cong s p q e =
+    same-test (forSome s p) (forSome s q)
+    (λ t. let x = forSome-iff s p .0 t in forSome-iff s q .1 (x .0, x .1, x .2, of-true (sym (e (x .0)) ∙ true-of (p (x .0)) (x .3))))
+    (λ t. let x = forSome-iff s q .0 t in forSome-iff s p .1 (x .0, x .1, x .2, of-true (e (x .0) ∙ true-of (q (x .0)) (x .3))))
+
 -- ---- one name of another box
 
 module _ (e : Estimate) (x k c w : ℕ) (b : Bool) (y : ℕ) (eb : b ≡ meets x y) (ey : y ≡ e .eps k c) where
@@ -71,51 +86,128 @@ module _ (e : Estimate) (x k c w : ℕ) (b : Bool) (y : ℕ) (eb : b ≡ meets x
         ∙ ap (λ (z : Bool). within w q and z) (sym (ap (λ (z : Bool). z implies within (e .kap k c) q) (test ∙ t)));
   }
 
--- ---- each name of another box
+-- ---- each name of a set
 
--- what the members of s below a number ask
-pub record Gathering (s : ℕ) (p : ℕ → ℕ → Bool) (from w : ℕ) : Type 0 where
-  pub ask : (q : ℕ) → T (within w q) → (j : ℕ) → j < from → T (has s j) → T (p j q)
-  pub meet : (q : ℕ) → ((j : ℕ) → j < from → T (has s j) → T (p j q)) → T (within w q)
+-- what is gathered, and what is left of s, ask together what w₀ and s ask
+pub record Gathering (s : ℕ) (p : ℕ → ℕ → Bool) (w₀ left w : ℕ) : Type 0 where
+  pub there : Left s left
+  pub same : (q : ℕ) → (within w q and forEach left (λ j. p j q)) ≡ (within w₀ q and forEach s (λ j. p j q))
 
-module _ (s : ℕ) (p : ℕ → ℕ → Bool) where
-  pub gathering-start : Gathering s p 0 0
-  gathering-start = record { ask = λ q t j l. absurd (not-suc-le-zero l); meet = λ q f. of-true (within-none q) }
+module _ (s : ℕ) (p : ℕ → ℕ → Bool) (w₀ : ℕ) where
+  pub gathering-start : s < 2 ^ 64 → Gathering s p w₀ s w₀
+  gathering-start h = record { there = left-start s h; same = λ q. refl }
 
-  module _ (from w : ℕ) (g : Gathering s p from w) (r : Lowest) (n : lowestOf r ≡ lowest s (λ n. from upto n)) where
-    pub gathering-turn : (a : NameNo) (v : ℕ) → r ≡ Member a → Joined v w (p (a .0)) → Gathering s p (a .0 + 1) v
-    gathering-turn a v e j = record {
-      ask = λ q t. let both = and-iff (within w q) (p (a .0) q) .0 (of-true (sym (j .same q) ∙ true-of (within v q) t)) in
-          passed s from r n a e (λ i. T (p i q)) (g .ask q (both .0)) (both .1);
-      meet = λ q f. of-true (j .same q ∙ true-of (within w q and p (a .0) q) (and-iff (within w q) (p (a .0) q) .1
-          (g .meet q (λ i l. f i (omega (arith, next-less s from r n a e))), f (a .0) (omega arith) (met s (λ i. from upto i) r a n e .member))));
+  module _ (left w : ℕ) (g : Gathering s p w₀ left w) where
+    pub gathering-62 : (n : ℕ) → Few s → (left ≡ 0 → ⊥) → n ≡ firstOf left → n < 62
+    gathering-62 n f = left-62 s left n f (g .there)
+
+    pub gathering-turn : (n t v : ℕ) → (left ≡ 0 → ⊥) → n ≡ firstOf left → RestOf left t → Joined v w (p n) → Gathering s p w₀ t v
+    gathering-turn n t v z e r j = record {
+      there = left-turn s left t (g .there) z r;
+      same = λ q. ap (λ (x : Bool). x and forEach t (λ i. p i q)) (j .same q) ∙ and-assoc (within w q) (p n q) (forEach t (λ i. p i q))
+          ∙ ap (λ (x : Bool). within w q and x) (sym (split-each (λ i. p i q) left t n (g .there .fit) z e r)) ∙ g .same q;
     }
 
-module _ (e : Estimate) (x k s from w : ℕ) (g : Gathering s (faceAsk e x k) from w) (h : s < 2 ^ 64) where
-  gathered : (q : ℕ) → (((j : ℕ) → j < from → T (has s j) → T (faceAsk e x k j q)) → (j : ℕ) → j < 64 → T (has s j) → T (faceAsk e x k j q))
-      → within w q ≡ facesAsk e x k s q
+    none-left : left ≡ 0 → (q : ℕ) → within w q ≡ (within w₀ q and forEach s (λ j. p j q))
+    none-left z q = sym (and-true (within w q)) ∙ ap (λ (x : Bool). within w q and x) (sym (none-each (λ j. p j q) left z)) ∙ g .same q
+
+-- all that box k may send on the names of s
+module _ (e : Estimate) (k s : ℕ) where
+  pub send-in : (v w u c : ℕ) → UnionOf v w u → u ≡ e .kap k c → Joined v w (sendAsk e k c)
+  unfolding sendAsk
+  send-in v w u c j eu = record { same = λ q. within-union v w u j q ∙ ap (λ (z : ℕ). within w q and within z q) eu }
+
+  pub sent-end : (left w : ℕ) → Gathering s (sendAsk e k) 0 left w → left ≡ 0 → Asked w (receivedIn e k s)
+  unfolding sendAsk receivedIn _and_
+  sent-end left w g z = record {
+    same = λ q. none-left s (sendAsk e k) 0 left w g z q ∙ ap (λ (x : Bool). x and receivedIn e k s q) (within-none q);
+  }
+
+-- what each name of s asks of box k
+module _ (e : Estimate) (x k s w₀ left w : ℕ) (g : Gathering s (faceAsk e x k) w₀ left w) where
+  pub faced-end : left ≡ 0 → Joined w w₀ (facesAsk e x k s)
   unfolding facesAsk
-  gathered q to =
-      let p : ℕ → Bool = λ c. faceAsk e x k c q in
-      same-test (within w q) (forEach s p) (λ t. forEach-iff s p .1 (to (g .ask q t)))
-      (λ t. g .meet q (λ j l u. forEach-iff s p .0 t j (has-below 64 s j h u) u))
+  faced-end z = record { same = none-left s (faceAsk e x k) w₀ left w g z }
 
-  pub gathering-past : 64 ≤ from → Asked w (facesAsk e x k s)
-  gathering-past l = record { same = λ q. gathered q (λ f j i. f j (omega arith)) }
+  -- once all that may be sent there is gathered, the names left ask nothing more
+  pub faced-stop : (all : ℕ) (b : Bool) → Asked all (receivedIn e k s) → b ≡ within all w → b ≡ true → Joined w w₀ (facesAsk e x k s)
+  unfolding facesAsk faceAsk receivedIn
+  faced-stop all b a i t = record {
+    same = λ q. same-test (within w q) (within w q and forEach left (λ j. faceAsk e x k j q)) (λ h. and-iff (within w q) (forEach left (λ j. faceAsk e x k j q)) .1 (h, rest-asks q h))
+        (λ h. and-iff (within w q) (forEach left (λ j. faceAsk e x k j q)) .0 h .0)
+        ∙ g .same q;
+  }
+    where
+      rest-asks : (q : ℕ) → T (within w q) → T (forEach left (λ j. faceAsk e x k j q))
+      rest-asks q h =
+          let r : T (receivedIn e k s q) = of-true (sym (a .same q) ∙ true-of (within all q) (within-trans all w q (of-true (sym i ∙ t)) h)) in
+          forEach-iff left (λ j. faceAsk e x k j q) .1
+          (λ j l u. implies-iff (meets x (e .eps k j)) (within (e .kap k j) q) .1 (λ _. forEach-iff s (λ c. within (e .kap k c) q) .0 r j l (g .there .inside j u)))
 
-  pub gathering-end : (r : Lowest) → lowestOf r ≡ lowest s (λ n. from upto n) → r ≡ NoMember → Asked w (facesAsk e x k s)
-  gathering-end r n z = record { same = λ q. gathered q (ended s from r n (λ j. T (faceAsk e x k j q)) z) }
+-- ---- the union of types
+
+meets-union : (v w u : ℕ) → UnionOf v w u → (x : ℕ) → meets x v ≡ (meets x w or meets x u)
+meets-union v w u e x =
+    same-test (meets x v) (meets x w or meets x u)
+    (λ t. let m = meets-iff x v .0 t in
+    or-iff (meets x w) (meets x u) .1 (⊎-elim (λ h. inl (meets-iff x w .1 (m .0, m .1, m .2, h))) (λ h. inr (meets-iff x u .1 (m .0, m .1, m .2, h)))
+    (or-iff (has w (m .0)) (has u (m .0)) .0 (of-true (sym (e (m .0)) ∙ true-of (has v (m .0)) (m .3))))))
+    (λ t. ⊎-elim (λ h. let m = meets-iff x w .0 h in meets-iff x v .1 (m .0, m .1, m .2, in-union (m .0) (inl (m .3))))
+    (λ h. let m = meets-iff x u .0 h in meets-iff x v .1 (m .0, m .1, m .2, in-union (m .0) (inr (m .3)))) (or-iff (meets x w) (meets x u) .0 t))
+  where
+    in-union : (n : ℕ) → T (has w n) ⊎ T (has u n) → T (has v n)
+    in-union n h = of-true (e n ∙ true-of (has w n or has u n) (or-iff (has w n) (has u n) .1 h))
+
+-- a type that shares a name with what is gathered, or with what is left of s
+pub record Typing (e : Estimate) (k s left v : ℕ) : Type 0 where
+  pub there : Left s left
+  pub same : (x : ℕ) → (meets x v or facesIn e x k left) ≡ facesIn e x k s
+
+module _ (e : Estimate) (k s : ℕ) where
+  pub typing-start : s < 2 ^ 64 → Typing e k s s 0
+  unfolding _or_
+  typing-start h = record {
+    there = left-start s h;
+    same = λ x. ap (λ (b : Bool). b or facesIn e x k s) (false-of (meets x 0) (λ t. let m = meets-iff x 0 .0 t in not-false (has-none (m .0)) (m .3)));
+  }
+
+  module _ (left v : ℕ) (g : Typing e k s left v) where
+    pub typing-62 : (n : ℕ) → Few s → (left ≡ 0 → ⊥) → n ≡ firstOf left → n < 62
+    typing-62 n f = left-62 s left n f (g .there)
+
+    pub typing-turn : (n t u y : ℕ) → (left ≡ 0 → ⊥) → n ≡ firstOf left → RestOf left t → UnionOf u v y → y ≡ e .eps k n → Typing e k s t u
+    unfolding facesIn
+    typing-turn n t u y z f r j ey = record {
+      there = left-turn s left t (g .there) z r;
+      same = λ x. ap (λ (b : Bool). b or facesIn e x k t) (meets-union u v y j x ∙ ap (λ (i : ℕ). meets x v or meets x i) ey)
+          ∙ or-assoc (meets x v) (meets x (e .eps k n)) (facesIn e x k t)
+          ∙ ap (λ (b : Bool). meets x v or b) (sym (split-some (λ c. meets x (e .eps k c)) left t n (g .there .fit) z f r)) ∙ g .same x;
+    }
+
+    pub typing-end : left ≡ 0 → Types e k s v
+    unfolding facesIn
+    typing-end z = record {
+      same = λ x. sym (or-false (meets x v)) ∙ ap (λ (b : Bool). meets x v or b) (sym (none-some (λ c. meets x (e .eps k c)) left z)) ∙ g .same x;
+    }
+
+module _ (e : Estimate) (h k : ℕ) where
+  pub types-as : (s u v : ℕ) → Types e k s v → s ≡ u → Types e k u v
+  types-as s u v t z = rw z at t
+
+  -- two boxes are linked exactly when the unions of their types share a name
+  pub linked-as : (own v : ℕ) (r : Bool) → r ≡ meets v own → Types e h (e .shown h) own → Types e k (e .shown k) v → r ≡ shut.linked e h k
+  unfolding shut.linked facesIn
+  linked-as own v r i o t = i ∙ o .same v ∙ forSome-cong (e .shown h) (λ a. meets v (e .eps h a)) (λ a. facesIn e (e .eps h a) k (e .shown k)) (λ a. meets-comm v (e .eps h a) ∙ t .same (e .eps h a))
 
 -- ---- every other box
 
 module _ (e : Estimate) (b x k w : ℕ) where
-  pub other-in : (v u s : ℕ) → (k ≡ b → ⊥) → UnionOf v w u → Asked u (facesAsk e x k s) → s ≡ e .shown k
-      → Joined v w (otherAsk e b x k)
+  pub other-in : (v s : ℕ) → (k ≡ b → ⊥) → Joined v w (facesAsk e x k s) → s ≡ e .shown k → Joined v w (otherAsk e b x k)
   unfolding otherAsk _implies_
-  other-in v u s f j a es = record {
-    same = λ q. within-union v w u j q
+  other-in v s f j es = record {
+    same = λ q. j .same q
         ∙ ap (λ (z : Bool). within w q and z)
-        (a .same q ∙ ap (λ (z : ℕ). facesAsk e x k z q) es
+        (ap (λ (z : ℕ). facesAsk e x k z q) es
         ∙ sym (ap (λ (z : Bool). z implies facesAsk e x k (e .shown k) q) (true-of (k isnt b) (isnt-iff k b .1 f))));
   }
 
@@ -148,7 +240,33 @@ pub through-end : (e : Estimate) (boxes b x k w : ℕ) → Through (otherAsk e b
 unfolding boxesAsk
 through-end e boxes b x k w t l = record { same = λ q. t .so-far q ∙ ap (λ (j : ℕ). allBelow j (λ i. otherAsk e b x i q)) (le-antisymm (t .most) l) }
 
--- ---- the table
+-- ---- the tables
+
+module _ (image : List ℕ) (boxes : ℕ) where
+  -- what a box may send on its shown names stands in the table of them
+  pub sends-at : (t : List ℕ) (k s v : ℕ) → Sends image boxes t → k < boxes → s ≡ estimateOf image .shown k → v ≡ getD t k 0
+      → Asked v (receivedIn (estimateOf image) k s)
+  sends-at t k s v d h es ev = rw (es, ev) (d .each k h)
+
+-- the entries below k are right
+pub record Sending (image : List ℕ) (boxes k : ℕ) (t : List ℕ) : Type 0 where
+  pub size : length t ≡ 8
+  pub each : (i : ℕ) → i < k → Asked (getD t i 0) (receivedIn (estimateOf image) i (estimateOf image .shown i))
+
+module _ (image : List ℕ) (boxes : ℕ) where
+  pub sending-start : Sending image boxes 0 (replicate 8 0)
+  sending-start = record { size = length-replicate {A = ℕ} 8 0; each = λ i l. absurd (not-suc-le-zero l) }
+
+  pub sending-turn : (k w s : ℕ) (t : List ℕ) → Small image boxes → Sending image boxes k t → k < boxes → Asked w (receivedIn (estimateOf image) k s)
+      → s ≡ estimateOf image .shown k → Sending image boxes (k + 1) (set t k w)
+  sending-turn k w s t small f h a es = record { size = simp length-set (f .size); each = λ i l. pick i l (ℕ-discrete i k) }
+    where
+      pick : (i : ℕ) → i < k + 1 → Dec (i ≡ k) → Asked (getD (set t k w) i 0) (receivedIn (estimateOf image) i (estimateOf image .shown i))
+      pick i l (yes z) = rw (z, getD-set-same t k w 0 (omega (arith, f .size, small .few))) (rw es at a)
+      pick i l (no z) = rw (getD-set-other t k i w 0) (f .each i (omega arith))
+
+  pub sending-end : (k : ℕ) (t : List ℕ) → Sending image boxes k t → boxes ≤ k → Sends image boxes t
+  sending-end k t f h = record { size = f .size; each = λ i l. f .each i (omega arith) }
 
 pub shown-62 : (image : List ℕ) (boxes b s a : ℕ) (r : Bool) → Small image boxes → b < boxes → a < 64 → r ≡ has s a → s ≡ estimateOf image .shown b → r ≡ true → a < 62
 shown-62 image boxes b s a r small h l e q t =
@@ -175,8 +293,8 @@ pub record Filled (image : List ℕ) (boxes j : ℕ) (t : List ℕ) : Type 0 whe
   pub each : (i : ℕ) → i < j → Asked (getD t i 0) (nameAsk (estimateOf image) boxes (i / 64) (i % 64))
 
 module _ (image : List ℕ) (boxes : ℕ) where
-  pub filled-start : Filled image boxes 0 (replicate 512 0)
-  filled-start = record { size = length-replicate {A = ℕ} 512 0; each = λ i l. absurd (not-suc-le-zero l) }
+  pub filled-start : (t : List ℕ) → length t ≡ 512 → Filled image boxes 0 t
+  filled-start t h = record { size = h; each = λ i l. absurd (not-suc-le-zero l) }
 
   pub filled-turn : (j w : ℕ) (t : List ℕ) → Small image boxes → Filled image boxes j t → j < 64 * boxes → Asked w (nameAsk (estimateOf image) boxes (j / 64) (j % 64))
       → Filled image boxes (j + 1) (set t j w)
@@ -195,4 +313,4 @@ module _ (image : List ℕ) (boxes : ℕ) where
         rw (eb, ea) at (f .each (64 * b + a) (omega arith));
   }
 
-pub ruleset gathers = (needs, fails, holds, small-shown, member-62, next-fits, next-less, face-in, face-out, gathering-start, gathering-past, gathering-end, gathering-turn, other-in, other-out, through-start, through-turn, through-end, shown-62, name-in, name-out, filled-start, filled-turn, filled-end)
+pub ruleset gathers = (needs, fails, holds, walk-less, small-shown, face-in, face-out, gathering-start, gathering-62, gathering-turn, send-in, sent-end, faced-end, faced-stop, typing-start, typing-62, typing-turn, typing-end, types-as, linked-as, other-in, other-out, through-start, through-turn, through-end, sends-at, sending-start, sending-turn, sending-end, shown-62, name-in, name-out, filled-start, filled-turn, filled-end)

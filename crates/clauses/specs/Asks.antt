@@ -37,12 +37,15 @@ crossedIn t b s q = forEach s (λ a. within (getD t (64 * b + a) 0) q)
 unfoldable pub typedIn : Estimate → ℕ → ℕ → Bool
 typedIn e s x = forEach s (λ g. within (e .rho g) x)
 
--- a link: a type x that shares a name with one of box k's on a name of s; two sets of box h's and box k's names
+-- ---- links
+
+-- a type x shares a name with box k's type on some name of s
 unfoldable pub facesIn : Estimate → ℕ → ℕ → ℕ → Bool
 facesIn e x k s = forSome s (λ c. meets x (e .eps k c))
 
-unfoldable pub linkedIn : Estimate → ℕ → ℕ → ℕ → ℕ → Bool
-linkedIn e h k s t = forSome s (λ a. facesIn e (e .eps h a) k t)
+-- v is the union of box k's types on the names of s: a type shares a name with v exactly when it shares one with some of them
+pub record Types (e : Estimate) (k s v : ℕ) : Type 0 where
+  pub same : (x : ℕ) → meets x v ≡ facesIn e x k s
 
 -- ---- what clause 6 asks, gathered
 
@@ -59,6 +62,10 @@ module _ (e : Estimate) where
   unfoldable pub faceAsk : ℕ → ℕ → ℕ → ℕ → Bool
   faceAsk x k c q = meets x (e .eps k c) implies within (e .kap k c) q
 
+  -- what box k may send on its name c is in q: what is gathered over its shown names is all that it may send to other boxes
+  unfoldable pub sendAsk : ℕ → ℕ → ℕ → Bool
+  sendAsk k c q = within (e .kap k c) q
+
   -- it faces each name of a set
   unfoldable pub facesAsk : ℕ → ℕ → ℕ → ℕ → Bool
   facesAsk x k s q = forEach s (λ c. faceAsk x k c q)
@@ -73,6 +80,11 @@ module _ (e : Estimate) where
   -- name a of box b, where it is shown
   unfoldable pub nameAsk : ℕ → ℕ → ℕ → ℕ → Bool
   nameAsk boxes b a q = has (e .shown b) a implies boxesAsk boxes b (e .eps b a) q
+
+-- a table of all that each box may send on its shown names
+pub record Sends (image : List ℕ) (boxes : ℕ) (t : List ℕ) : Type 0 where
+  pub size : length t ≡ 8
+  pub each : (k : ℕ) → k < boxes → Asked (getD t k 0) (receivedIn (estimateOf image) k (estimateOf image .shown k))
 
 -- a table of what each name of each box asks: 64 words a box
 pub record Needs (image : List ℕ) (boxes : ℕ) (t : List ℕ) : Type 0 where

@@ -9,6 +9,7 @@ ghost use Rattle.clauses.specs.Asks.{Few, typedIn};
 use sets::NameNo;
 
 pub mod gather;
+pub mod links;
 pub mod walks;
 
 // n in rho(n): clauses 1 and 3.

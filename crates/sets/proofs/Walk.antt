@@ -2,7 +2,7 @@
 -- is a fact that the code has: n is what `first` gives, b what the test gives there, t what `rest` gives. Assumes nothing.
 use mathlib.Core.Path.{_≡_, refl, sym, ap, subst, _∙_}
 use mathlib.Core.Bool.{Bool, true, false}
-use mathlib.Core.Logic.{⊎-elim}
+use mathlib.Core.Logic.{_⊎_, inl, inr, ⊎-elim}
 use mathlib.Core.Option.{Option, none, some}
 use Prim.Native.Nat.{ℕ, _+_, _-_, _%_, _^_, _<_}
 use native.Mathlib.Nat.{lt-of-le-of-lt, lt-trans, eq-zero-or-pos}
@@ -13,9 +13,9 @@ use borrow.Author.Tests.{not-true, not-false as not-not}
 use lib.Dec.{T}
 use lib.Bits.{bitAnd, and-zero-l, and-le-r}
 use lib.Count.{trailingZeros, trailing-of-zero}
-use Rattle.definitions.specs.Bounded.{_and_, _isnt_}
+use Rattle.definitions.specs.Bounded.{_and_, _or_, _isnt_}
 use Rattle.definitions.specs.Sets.{has, forEach, forSome, lowest}
-use Rattle.definitions.proofs.Bounded.{and-iff, isnt-iff, true-of, of-true, false-of, not-false, same-test}
+use Rattle.definitions.proofs.Bounded.{and-iff, or-iff, isnt-iff, true-of, of-true, false-of, not-false, same-test}
 use Rattle.definitions.proofs.Sets.{has-none, has-rest, low-set, lowest-empty, lowest-word, forEach-iff, forSome-iff}
 use Rattle.sets.specs.Lowest.{firstOf, RestOf}
 
@@ -80,77 +80,74 @@ rest-each s t n e r Q q f j u = pick (ℕ-discrete n j)
 rest-in : (s t : ℕ) → RestOf s t → (j : ℕ) → T (has t j) → T (has s j)
 rest-in s t r j u = and-iff (has s j) (firstOf s isnt j) .0 (of-true (sym (r .members j) ∙ true-of (has t j) u)) .0
 
+module _ (p : ℕ → Bool) (left t n : ℕ) (fit : left < 2 ^ 64) (some-left : left ≡ 0 → ⊥) (e : n ≡ firstOf left) (r : RestOf left t) where
+  -- a test at each member, or at some member: at the lowest, and over the rest
+  pub split-each : forEach left p ≡ (p n and forEach t p)
+  split-each =
+      same-test (forEach left p) (p n and forEach t p)
+      (λ u. and-iff (p n) (forEach t p) .1 (
+        forEach-iff left p .0 u n (first-below left n fit some-left e) (first-in left n fit some-left e),
+        forEach-iff t p .1 (λ j l v. forEach-iff left p .0 u j l (rest-in left t r j v)),
+      ))
+      (λ u. let x = and-iff (p n) (forEach t p) .0 u in
+      forEach-iff left p .1 (λ j l v. rest-each left t n e r (λ i. i < 64 → T (p i)) (λ _. x .0) (λ i h g. forEach-iff t p .0 (x .1) i g h) j v l))
+
+  pub split-some : forSome left p ≡ (p n or forSome t p)
+  split-some =
+      same-test (forSome left p) (p n or forSome t p)
+      (λ u. let x = forSome-iff left p .0 u in
+      or-iff (p n) (forSome t p) .1 (rest-each left t n e r (λ i. i < 64 → T (p i) → T (p n) ⊎ T (forSome t p)) (λ _. inl)
+      (λ i h g y. inr (forSome-iff t p .1 (i, g, h, y))) (x .0) (x .2) (x .1) (x .3)))
+      (λ u. ⊎-elim (λ y. forSome-iff left p .1 (n, first-below left n fit some-left e, first-in left n fit some-left e, y))
+      (λ v. let x = forSome-iff t p .0 v in forSome-iff left p .1 (x .0, x .1, rest-in left t r (x .0) (x .2), x .3)) (or-iff (p n) (forSome t p) .0 u))
+
+pub none-each : (p : ℕ → Bool) (left : ℕ) → left ≡ 0 → forEach left p ≡ true
+none-each p left z =
+    true-of (forEach left p) (forEach-iff left p .1 (λ j l t. absurd (not-false (ap (λ (x : ℕ). has x j) z ∙ has-none j) t)))
+
+pub none-some : (p : ℕ → Bool) (left : ℕ) → left ≡ 0 → forSome left p ≡ false
+none-some p left z =
+    false-of (forSome left p) (λ t. let x = forSome-iff left p .0 t in not-false (ap (λ (y : ℕ). has y (x .0)) z ∙ has-none (x .0)) (x .2))
+
+-- what is left to walk of s
+pub record Left (s left : ℕ) : Type 0 where
+  pub fit : left < 2 ^ 64
+  pub inside : (j : ℕ) → T (has left j) → T (has s j)
+
+pub left-start : (s : ℕ) → s < 2 ^ 64 → Left s s
+left-start s h = record { fit = h; inside = λ j t. t }
+
+pub left-turn : (s left t : ℕ) → Left s left → (left ≡ 0 → ⊥) → RestOf left t → Left s t
+left-turn s left t w z r = record { fit = lt-trans (walk-less left t z r) (w .fit); inside = λ j u. w .inside j (rest-in left t r j u) }
+
+pub left-in : (s left n : ℕ) → Left s left → (left ≡ 0 → ⊥) → n ≡ firstOf left → T (has s n)
+left-in s left n w z e = w .inside n (first-in left n (w .fit) z e)
+
 -- what is left of s gives the answer that s gives
 pub record EachLeft (p : ℕ → Bool) (s left : ℕ) : Type 0 where
-  pub fit : left < 2 ^ 64
+  pub there : Left s left
   pub same : forEach left p ≡ forEach s p
-
-pub record SomeLeft (p : ℕ → Bool) (s left : ℕ) : Type 0 where
-  pub fit : left < 2 ^ 64
-  pub same : forSome left p ≡ forSome s p
 
 module _ (p : ℕ → Bool) (s : ℕ) where
   pub each-start : s < 2 ^ 64 → EachLeft p s s
-  each-start h = record { fit = h; same = refl }
-
-  pub some-start : s < 2 ^ 64 → SomeLeft p s s
-  some-start h = record { fit = h; same = refl }
+  each-start h = record { there = left-start s h; same = refl }
 
   pub each-end : (left : ℕ) → EachLeft p s left → left ≡ 0 → true ≡ forEach s p
-  each-end left w z =
-      sym
-      (true-of (forEach left p)
-      (forEach-iff left p .1 (λ j l t. absurd (not-false (ap (λ (x : ℕ). has x j) z ∙ has-none j) t))))
-      ∙ w .same
+  each-end left w z = sym (none-each p left z) ∙ w .same
 
-  pub some-end : (left : ℕ) → SomeLeft p s left → left ≡ 0 → false ≡ forSome s p
-  some-end left w z =
-      sym
-      (false-of (forSome left p)
-      (λ t. let x = forSome-iff left p .0 t in not-false (ap (λ (y : ℕ). has y (x .0)) z ∙ has-none (x .0)) (x .2)))
-      ∙ w .same
+  module _ (left n : ℕ) (b : Bool) (w : EachLeft p s left) (z : left ≡ 0 → ⊥) (e : n ≡ firstOf left) (is : b ≡ p n) where
+    pub each-stop : b ≡ false → false ≡ forEach s p
+    each-stop f =
+        sym
+        (false-of (forEach left p)
+        (λ t. not-false (sym is ∙ f) (forEach-iff left p .0 t n (first-below left n (w .there .fit) z e) (first-in left n (w .there .fit) z e))))
+        ∙ w .same
 
-  pub each-stop : (left n : ℕ) (b : Bool) → EachLeft p s left → (left ≡ 0 → ⊥) → n ≡ firstOf left → b ≡ p n → b ≡ false
-      → false ≡ forEach s p
-  each-stop left n b w z e is f =
-      sym
-      (false-of (forEach left p)
-      (λ t. not-false (sym is ∙ f) (forEach-iff left p .0 t n (first-below left n (w .fit) z e) (first-in left n (w .fit) z e))))
-      ∙ w .same
+    pub each-turn : (t : ℕ) → RestOf left t → b ≡ true → EachLeft p s t
+    unfolding _and_
+    each-turn t r q = record {
+      there = left-turn s left t (w .there) z r;
+      same = sym (split-each p left t n (w .there .fit) z e r ∙ ap (λ (x : Bool). x and forEach t p) (sym is ∙ q)) ∙ w .same;
+    }
 
-  pub some-stop : (left n : ℕ) (b : Bool) → SomeLeft p s left → (left ≡ 0 → ⊥) → n ≡ firstOf left → b ≡ p n → b ≡ true
-      → true ≡ forSome s p
-  some-stop left n b w z e is t =
-      sym
-      (true-of (forSome left p)
-      (forSome-iff left p .1 (n, first-below left n (w .fit) z e, first-in left n (w .fit) z e, of-true (sym is ∙ t))))
-      ∙ w .same
-
-  pub each-turn : (left t n : ℕ) (b : Bool) → EachLeft p s left → (left ≡ 0 → ⊥) → RestOf left t → n ≡ firstOf left → b ≡ p n → b ≡ true
-      → EachLeft p s t
-  each-turn left t n b w z r e is q =
-      record { fit = lt-trans (walk-less left t z r) (w .fit); same = same-test (forEach t p) (forEach left p) up down ∙ w .same }
-    where
-      up : T (forEach t p) → T (forEach left p)
-      up u =
-          forEach-iff left p .1
-          (λ j l v. rest-each left t n e r (λ i. i < 64 → T (p i)) (λ _. of-true (sym is ∙ q)) (λ i h g. forEach-iff t p .0 u i g h) j v l)
-
-      down : T (forEach left p) → T (forEach t p)
-      down u = forEach-iff t p .1 (λ j l v. forEach-iff left p .0 u j l (rest-in left t r j v))
-
-  pub some-turn : (left t n : ℕ) (b : Bool) → SomeLeft p s left → (left ≡ 0 → ⊥) → RestOf left t → n ≡ firstOf left → b ≡ p n → b ≡ false
-      → SomeLeft p s t
-  some-turn left t n b w z r e is q =
-      record { fit = lt-trans (walk-less left t z r) (w .fit); same = same-test (forSome t p) (forSome left p) up down ∙ w .same }
-    where
-      up : T (forSome t p) → T (forSome left p)
-      up u = let x = forSome-iff t p .0 u in forSome-iff left p .1 (x .0, x .1, rest-in left t r (x .0) (x .2), x .3)
-
-      down : T (forSome left p) → T (forSome t p)
-      down u =
-          let x = forSome-iff left p .0 u in
-          rest-each left t n e r (λ i. i < 64 → T (p i) → T (forSome t p)) (λ _ y. absurd (not-false (sym is ∙ q) y))
-          (λ i h g y. forSome-iff t p .1 (i, g, h, y)) (x .0) (x .2) (x .1) (x .3)
-
-pub ruleset walks = (needs, not-true, not-not, first-below, walk-less, each-start, each-turn, each-stop, each-end, some-start, some-turn, some-stop, some-end)
+pub ruleset walks = (needs, not-true, not-not, first-below, walk-less, each-start, each-turn, each-stop, each-end)

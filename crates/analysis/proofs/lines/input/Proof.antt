@@ -9,23 +9,17 @@ received-requires c κs = search inputs
 unless-requires : tie.Need-unless-requires
 unless-requires c κs = search inputs
 
-enum-told : tie.Need-enum-told
-enum-told c = search inputs
-
-returns : tie.Need-returns
-returns c = search inputs
-
-enum-told-2 : tie.Need-enum-told-2
-enum-told-2 c = search inputs
-
 crossed-requires : tie.Need-crossed-requires
 crossed-requires c κs = search inputs
 
 unless-requires-2 : tie.Need-unless-requires-2
 unless-requires-2 c κs = search inputs
 
-returns-2 : tie.Need-returns-2
-returns-2 c = search inputs
+earlier-requires : tie.Need-earlier-requires
+earlier-requires c κs = search inputs
+
+returns : tie.Need-returns
+returns c = search inputs
 
 pub input-spec : {M : Type 1} → statement M
 input-spec =
@@ -33,9 +27,7 @@ input-spec =
     (tie.spec
     received-requires
     unless-requires
-    enum-told
-    returns
-    enum-told-2
     crossed-requires
     unless-requires-2
-    returns-2)
+    earlier-requires
+    returns)

@@ -10,10 +10,13 @@ use Rattle.analysis.proofs.walks.shut_off.Statement.{statement}
 use Rattle.analysis.proofs.walks.shut_off.Tie as tie
 
 abbrev Inv-loop : tie.InvT-loop
-Inv-loop estimate boxes h k₀ k = Passing (λ j. j isnt h implies not (linked (estimateOf estimate) h j)) k
+Inv-loop estimate boxes h own k₀ k = Passing (λ j. j isnt h implies not (linked (estimateOf estimate) h j)) k
 
 abbrev μ-loop : tie.MeasureT-loop
-μ-loop estimate boxes h k₀ k = boxes - k
+μ-loop estimate boxes h own k₀ k = boxes - k
+
+types-requires : tie.Need-types-requires Inv-loop μ-loop
+types-requires c κs = search apart
 
 loop-holds : tie.Need-loop-holds Inv-loop μ-loop
 loop-holds c = search apart
@@ -44,6 +47,7 @@ shut-off-spec =
     (tie.spec
     Inv-loop
     μ-loop
+    types-requires
     loop-holds
     apart-requires
     returns

@@ -1,5 +1,4 @@
--- `clauses::gather::faced` meets its contract: what the members passed ask is gathered. Assumes nothing.
-use Prim.Native.Nat.{_-_}
+-- `clauses::gather::faced` meets its contract: what the names passed ask is gathered. Assumes nothing.
 use Rattle.definitions.specs.Estimate.{estimateOf}
 use Rattle.clauses.specs.Asks.{faceAsk}
 use Rattle.clauses.proofs.Unions.{Gathering, gathers}
@@ -7,31 +6,28 @@ use Rattle.clauses.proofs.gather.faced.Statement.{statement}
 use Rattle.clauses.proofs.gather.faced.Tie as tie
 
 abbrev Inv-loop : tie.InvT-loop
-Inv-loop estimate x k s w₀ from₀ w from = Gathering s (faceAsk (estimateOf estimate) x k) from w
+Inv-loop estimate x k s all w v₀ left₀ v left = Gathering s (faceAsk (estimateOf estimate) x k) w left v
 
 abbrev μ-loop : tie.MeasureT-loop
-μ-loop estimate x k s w₀ from₀ w from = 64 - from
+μ-loop estimate x k s all w v₀ left₀ v left = left
 
 loop-holds : tie.Need-loop-holds Inv-loop μ-loop
 loop-holds c = search gathers
 
-next-member-requires : tie.Need-next-member-requires Inv-loop μ-loop
-next-member-requires c κs = search gathers
-
-enum-known-c : tie.Need-enum-known-c Inv-loop μ-loop
-enum-known-c c = search gathers
-
-enum-told : tie.Need-enum-told Inv-loop μ-loop
-enum-told c = search gathers
+within-requires : tie.Need-within-requires Inv-loop μ-loop
+within-requires c κs = search gathers
 
 returns : tie.Need-returns Inv-loop μ-loop
 returns c = search gathers
 
+first-requires : tie.Need-first-requires Inv-loop μ-loop
+first-requires c κs = search gathers
+
 face-requires : tie.Need-face-requires Inv-loop μ-loop
 face-requires c κs = search gathers
 
-add-from : tie.Need-add-from Inv-loop μ-loop
-add-from c = search gathers
+rest-requires : tie.Need-rest-requires Inv-loop μ-loop
+rest-requires c κs = search gathers
 
 loop-less : tie.Need-loop-less Inv-loop μ-loop
 loop-less c = search gathers
@@ -49,12 +45,11 @@ faced-spec =
     Inv-loop
     μ-loop
     loop-holds
-    next-member-requires
-    enum-known-c
-    enum-told
+    within-requires
     returns
+    first-requires
     face-requires
-    add-from
+    rest-requires
     loop-less
     loop-again
     returns-2)

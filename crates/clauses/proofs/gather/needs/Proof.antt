@@ -5,10 +5,13 @@ use Rattle.clauses.proofs.gather.needs.Statement.{statement}
 use Rattle.clauses.proofs.gather.needs.Tie as tie
 
 abbrev Inv-loop : tie.InvT-loop
-Inv-loop estimate boxes t₀ j₀ t j = Filled estimate boxes j t
+Inv-loop estimate boxes t₀ sends j₀ t j = Filled estimate boxes j t
 
 abbrev μ-loop : tie.MeasureT-loop
-μ-loop estimate boxes t₀ j₀ t j = 64 * boxes - j
+μ-loop estimate boxes t₀ sends j₀ t j = 64 * boxes - j
+
+sends-requires : tie.Need-sends-requires Inv-loop μ-loop
+sends-requires c κs = search gathers
 
 loop-holds : tie.Need-loop-holds Inv-loop μ-loop
 loop-holds c = search gathers
@@ -22,8 +25,8 @@ entry-requires c κs = search gathers
 mul-t : tie.Need-mul-t Inv-loop μ-loop
 mul-t c = search gathers
 
-array-write-t : tie.Need-array-write-t Inv-loop μ-loop
-array-write-t c = search gathers
+element-write-t : tie.Need-element-write-t Inv-loop μ-loop
+element-write-t c = search gathers
 
 add-j : tie.Need-add-j Inv-loop μ-loop
 add-j c = search gathers
@@ -43,11 +46,12 @@ needs-spec =
     (tie.spec
     Inv-loop
     μ-loop
+    sends-requires
     loop-holds
     mul-loop
     entry-requires
     mul-t
-    array-write-t
+    element-write-t
     add-j
     loop-less
     loop-again

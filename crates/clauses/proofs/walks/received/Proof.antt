@@ -1,33 +1,23 @@
--- `clauses::walks::received` meets its contract: the members passed meet the test. Assumes nothing.
-use Prim.Native.Nat.{_-_}
+-- `clauses::walks::received` meets its contract: the members left give the answer. Assumes nothing.
 use Rattle.definitions.specs.Sets.{within}
 use Rattle.definitions.specs.Estimate.{estimateOf}
+use Rattle.sets.proofs.Walk.{EachLeft}
 use Rattle.clauses.specs.Asks.{receivedIn}
-use Rattle.clauses.proofs.Members.{Walked, walks}
+use Rattle.clauses.proofs.Members.{walks}
 use Rattle.clauses.proofs.walks.received.Statement.{statement}
 use Rattle.clauses.proofs.walks.received.Tie as tie
 
 abbrev Inv-loop : tie.InvT-loop
-Inv-loop estimate b s q from₀ from = Walked s (λ a. within (estimateOf estimate .kap b a) q) from
+Inv-loop estimate b s q left₀ left = EachLeft (λ a. within (estimateOf estimate .kap b a) q) s left
 
 abbrev μ-loop : tie.MeasureT-loop
-μ-loop estimate b s q from₀ from = 64 - from
+μ-loop estimate b s q left₀ left = left
 
 loop-holds : tie.Need-loop-holds Inv-loop μ-loop
 loop-holds c = search walks
 
-next-member-requires : tie.Need-next-member-requires Inv-loop μ-loop
-next-member-requires c κs = search walks
-
-enum-known-a : tie.Need-enum-known-a Inv-loop μ-loop
-enum-known-a c = search walks
-
-enum-told : tie.Need-enum-told Inv-loop μ-loop
-enum-told c = search walks
-
-returns : tie.Need-returns Inv-loop μ-loop
-unfolding receivedIn
-returns c = search walks
+first-requires : tie.Need-first-requires Inv-loop μ-loop
+first-requires c κs = search walks
 
 kap-requires : tie.Need-kap-requires Inv-loop μ-loop
 kap-requires c κs = search walks
@@ -35,12 +25,12 @@ kap-requires c κs = search walks
 within-requires : tie.Need-within-requires Inv-loop μ-loop
 within-requires c κs = search walks
 
-returns-2 : tie.Need-returns-2 Inv-loop μ-loop
+returns : tie.Need-returns Inv-loop μ-loop
 unfolding receivedIn
-returns-2 c = search walks
+returns c = search walks
 
-add-from : tie.Need-add-from Inv-loop μ-loop
-add-from c = search walks
+rest-requires : tie.Need-rest-requires Inv-loop μ-loop
+rest-requires c κs = search walks
 
 loop-less : tie.Need-loop-less Inv-loop μ-loop
 loop-less c = search walks
@@ -48,9 +38,9 @@ loop-less c = search walks
 loop-again : tie.Need-loop-again Inv-loop μ-loop
 loop-again c = search walks
 
-returns-3 : tie.Need-returns-3 Inv-loop μ-loop
+returns-2 : tie.Need-returns-2 Inv-loop μ-loop
 unfolding receivedIn
-returns-3 c = search walks
+returns-2 c = search walks
 
 pub received-spec : {M : Type 1} → statement M
 received-spec =
@@ -59,14 +49,11 @@ received-spec =
     Inv-loop
     μ-loop
     loop-holds
-    next-member-requires
-    enum-known-a
-    enum-told
-    returns
+    first-requires
     kap-requires
     within-requires
-    returns-2
-    add-from
+    returns
+    rest-requires
     loop-less
     loop-again
-    returns-3)
+    returns-2)
