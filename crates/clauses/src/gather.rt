@@ -68,7 +68,7 @@ fn faced(estimate: &[u8], x: u64, k: usize, s: u64, all: u64, w: u64) -> u64
 
 // What is gathered so far, with what a site of box b with the type x asks of box k.
 fn other(estimate: &[u8], sends: &[u64; 8], boxes: usize, b: usize, x: u64, k: usize, w: u64) -> u64
-    requires { ⌜ Small (now estimate) boxes × Sends (now estimate) boxes (now sends) × (k < boxes) ⌝ }
+    requires { ⌜ Small (now estimate) boxes × Sends (now estimate) boxes (now sends) × (b < boxes) × (k < boxes) ⌝ }
     ensures { λ r. ⌜ Joined r w (otherAsk (estimateOf (now (estimate .entry))) b x k) ⌝ }
 {
     if k != b {
@@ -80,7 +80,7 @@ fn other(estimate: &[u8], sends: &[u64; 8], boxes: usize, b: usize, x: u64, k: u
 
 // What it asks of every other box.
 fn others(estimate: &[u8], sends: &[u64; 8], boxes: usize, b: usize, x: u64) -> u64
-    requires { ⌜ Small (now estimate) boxes × Sends (now estimate) boxes (now sends) ⌝ }
+    requires { ⌜ Small (now estimate) boxes × Sends (now estimate) boxes (now sends) × (b < boxes) ⌝ }
     ensures { λ r. ⌜ Asked r (boxesAsk (estimateOf (now (estimate .entry))) boxes b x) ⌝ }
 {
     let mut w: u64 = 0;
