@@ -7,6 +7,7 @@ use Prim.Native.Nat.{ℕ, zero, suc, _+_, _-_, _^_, _≤_, _<_}
 use native.Mathlib.Omega.{arith}
 use native.Mathlib.Decide.{decLt}
 use borrow.Author.Needs.{needs}
+use borrow.Author.Tests.{eq-eqb, ne-eqb}
 use lib.Dec.{T, eqb, leb, ltb}
 use lib.ListN.{length}
 use Rattle.definitions.specs.Bounded.{_and_, _or_, _implies_, _is_, _isnt_, _below_, _upto_, allBelow, anyBelow}
@@ -151,11 +152,29 @@ pub bound-is : (p q : ℕ → Bool) (l : Line) (a b one two r : Bool) → r ≡ 
 unfolding boundFit _is_
 bound-is p q l a b one two r e1 e2 e3 e4 e5 = cc
 
-pub expose-is : (p q : ℕ → Bool) (l : Line) (a type shown one two r : Bool) → r ≡ (one and two) → one ≡ (eqb (l .op) 6 implies shown)
-    → shown ≡ (a and type) → a ≡ q (l .name1) → type ≡ typeFits p (l .name1) (l .type) → two ≡ (not (eqb (l .op) 6) implies eqb (l .type) 0)
-    → r ≡ exposeFit p q l
+-- a field that is tested, and one that is not
+tested : (c a b : Bool) → c ≡ true → a ≡ ((c implies a) and (not c implies b))
+unfolding _and_ _implies_
+tested true true b e = refl
+tested true false b e = refl
+tested false a b e = absurd (not-false refl (of-true e))
+
+passed-by : (c a b : Bool) → c ≡ false → b ≡ ((c implies a) and (not c implies b))
+unfolding _and_ _implies_
+passed-by true a b e = absurd (not-false e tt)
+passed-by false a b e = refl
+
+pub expose-yes : (p q : ℕ → Bool) (l : Line) (a type r : Bool) → l .op ≡ 6 → a ≡ q (l .name1) → type ≡ typeFits p (l .name1) (l .type)
+    → r ≡ (a and type) → r ≡ exposeFit p q l
 unfolding exposeFit _is_ _isnt_
-expose-is p q l a type shown one two r e1 e2 e3 e4 e5 e6 = cc
+expose-yes p q l a type r o ea et er =
+    er ∙ ap₂ _and_ ea et
+    ∙ tested (eqb (l .op) 6) (q (l .name1) and typeFits p (l .name1) (l .type)) (eqb (l .type) 0) (eq-eqb (l .op) 6 o)
+
+pub expose-no : (p q : ℕ → Bool) (l : Line) (r : Bool) → (l .op ≡ 6 → ⊥) → r ≡ eqb (l .type) 0 → r ≡ exposeFit p q l
+unfolding exposeFit _is_ _isnt_
+expose-no p q l r o e =
+    e ∙ passed-by (eqb (l .op) 6) (q (l .name1) and typeFits p (l .name1) (l .type)) (eqb (l .type) 0) (ne-eqb (l .op) 6 o)
 
 line-fits : (kinds : List ℕ) (l : Line)
     → lineOk (listed kinds) (λ n. listed kinds n and kind kinds n is 1) (λ n. listed kinds n and kind kinds n is 2) (λ n. listed kinds n and kind kinds n is 3) l
@@ -365,4 +384,4 @@ reach-told l plain above bound us v bs w mt r u un ew bi em er = record {
       ∙ ap (λ (l : Line). allBelow 64 (λ n. (uses l n implies kind kinds n is 0 or boundAbove x i n) and (binds l n implies not (boundBefore m b i n)))) e;
 }
 
-pub ruleset records = (needs, with-yes, with-no, when-yes, when-no, others-is, binds-is, uses-is, type-is, site-told, shape-is, names-is, bound-is, expose-is, line-told, kid-low, kid-high, kid-past, put-low, put-high, put-past, children-is, child-told, tree-told, reach-told)
+pub ruleset records = (needs, with-yes, with-no, when-yes, when-no, others-is, binds-is, uses-is, type-is, site-told, shape-is, names-is, bound-is, expose-yes, expose-no, line-told, kid-low, kid-high, kid-past, put-low, put-high, put-past, children-is, child-told, tree-told, reach-told)
