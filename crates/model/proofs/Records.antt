@@ -18,7 +18,7 @@ use Rattle.definitions.proofs.Bounded.{tests, and-iff, or-iff, implies-iff, is-
 use Rattle.definitions.proofs.Faults.{not-iff}
 use Rattle.definitions.proofs.Sets.{has-none, has-above, has-not, or-false, forEach-iff, within-iff, meets-iff}
 use Rattle.model.specs.declared.fits.Kids.{Kids}
-use Rattle.model.specs.Parts.{SetOf, KindsIn, isPlain, putIf, keepIf, lacks, lineIs, putLine, putChildren, siteOk, shapeFit, namesFit, boundFit, exposeFit, lineOk}
+use Rattle.model.specs.Parts.{SetOf, KindsIn, isPlain, putIf, keepIf, lacks, lineIs, putLine, putChildren, siteOk, shapeFit, namesFit, boundFit, exposeFit, lineOk, treeOk}
 use Rattle.model.specs.Told.{KidsOf, SiteTold, LineTold, ChildTold, TreeTold, ReachTold}
 
 -- ---- sets by a test
@@ -157,7 +157,7 @@ tested : (c a b : Bool) → c ≡ true → a ≡ ((c implies a) and (not c impli
 unfolding _and_ _implies_
 tested true true b e = refl
 tested true false b e = refl
-tested false a b e = absurd (not-false refl (of-true e))
+tested false a b e = absurd (of-true e)
 
 passed-by : (c a b : Bool) → c ≡ false → b ≡ ((c implies a) and (not c implies b))
 unfolding _and_ _implies_
@@ -329,29 +329,17 @@ child-told i c n seen a k r ea ek er = record { tells = λ p kids few. pick p ki
     pick p kids few (yes l) = raw ∙ ap (λ (t : Bool). ltb i c and ltb c n and not t) (ek (omega arith) ∙ kids .at c (omega arith))
     pick p kids few (no l) = raw ∙ none (omega arith) k ∙ sym (none (omega arith) (p c))
 
--- the test of 8 of a line l, as line i of n, over the children before and all
-unfoldable pub treeOk : Line → ℕ → ℕ → (ℕ → Bool) → (ℕ → Bool) → Bool
-treeOk l i n before all =
-    (l .op isnt 0 implies (i below l .child1 and l .child1 below n and not (before (l .child1))))
-    and (l .op is 1 implies (i below l .child2 and l .child2 below n and not (before (l .child2))) and l .child1 isnt l .child2)
-    and (i isnt 0 implies all i)
-
 pub tree-told : (l : Line) (i n : ℕ) (seen all : Kids) (f g s h kid x y z r : Bool) → ChildTold i (l .child1) n seen f → ChildTold i (l .child2) n seen g
     → s ≡ (g and not (eqb (l .child1) (l .child2))) → (i < 128 → h ≡ lineIs (all .low) (all .high) i) → kid ≡ (not (eqb i 0) implies h)
     → x ≡ (not (eqb (l .op) 0) implies f) → y ≡ (eqb (l .op) 1 implies s) → z ≡ (x and y) → r ≡ (z and kid) → TreeTold l i n seen all r
-unfolding treeOk treeFits childFits _is_ _isnt_
+unfolding treeOk _is_ _isnt_
 tree-told l i n seen all f g s h kid x y z r tf tg es eh ek ex ey ez er = record {
-  tells = λ box count few low before named e.
-      raw (λ c. anyBelow i (λ j. hasChild (lineAt box j) c)) (λ c. anyBelow n (λ j. hasChild (lineAt box j) c)) few low before named
-      ∙ ap₂ (λ (l : Line) (n : ℕ). treeOk l i n (λ c. anyBelow i (λ j. hasChild (lineAt box j) c)) (λ c. anyBelow n (λ j. hasChild (lineAt box j) c))) e count;
+  tells = λ p q few low before named.
+      let e1 = tf .tells p before few in
+      let e2 = tg .tells p before few in
+      let e3 : h ≡ q i = eh (omega arith) ∙ named .at i (omega arith) in
+      cc;
 }
-  where
-    raw : (p q : ℕ → Bool) → n ≤ 124 → i < n → KidsOf seen p → KidsOf all q → r ≡ treeOk l i n p q
-    raw p q few low before named =
-        let e1 = tf .tells p before few in
-        let e2 = tg .tells p before few in
-        let e3 : h ≡ q i = eh (omega arith) ∙ named .at i (omega arith) in
-        cc
 
 -- ---- 9
 
