@@ -20,8 +20,8 @@ use Rattle.definitions.specs.Answer.{Refusal, refusal}
 use Rattle.definitions.specs.Model.{Site, Line, Box, Model, siteAt, lineAt, boxAt, siteCount, lineCount, boxCount, isFree, hasChild, binds, bindsIn, boundAbove}
 use Rattle.definitions.specs.Image.{siteRecord, lineRecord, boxesOf, kindsOf, sitesBlock, linesOf, boxOfImage, modelOf}
 use Rattle.definitions.specs.ReadModel.{usedBefore, siteFits, lineFits, childFits, treeFits, boundBefore, reachFits}
-use Rattle.definitions.proofs.Bounded.{and-iff, or-iff, implies-iff, decide, any-iff, any-cong, is-iff, isnt-iff, true-of, false-of, of-true, not-false, same-test, first-zero, first-more, first-stop}
-use Rattle.definitions.proofs.Loops.{holds}
+use Rattle.definitions.proofs.Bounded.{and-iff, or-iff, implies-iff, decide, any-iff, any-cong, is-iff, isnt-iff, true-of, false-of, of-true, not-false, same-test}
+use Rattle.definitions.proofs.Loops.{Passed, passed-start, passed-turn, passed-stop, passed-end, holds}
 use Rattle.definitions.proofs.Faults.{first-iff, passed-iff}
 use Rattle.definitions.proofs.Sets.{has-none}
 use Rattle.definitions.proofs.Image.{model-count, model-box, box-sites, box-site, box-lines, box-line}
@@ -44,11 +44,6 @@ or-assoc : (a b c : Bool) → (a or b or c) ≡ (a or (b or c))
 unfolding _or_
 or-assoc true b c = refl
 or-assoc false b c = refl
-
-pub or-false : (a : Bool) → (a or false) ≡ a
-unfolding _or_
-or-false true = refl
-or-false false = refl
 
 -- ---- lines that are there
 
@@ -264,32 +259,31 @@ climb-long image k n i up p = p .long
 
 -- ---- the first record that does not fit
 
+-- the fault of record i of box b, where it does not fit
+abbrev misfit : ℕ → (ℕ → ℕ → Bool) → ℕ → ℕ → Option Refusal
+misfit number fits b i = faultIf (not (fits b i)) (refusal number b i)
+
 pub record Along (number n : ℕ) (fits : ℕ → ℕ → Bool) (b i : ℕ) : Type 0 where
-  pub upto : i ≤ n
-  pub none : firstBelow i (λ i. faultIf (not (fits b i)) (refusal number b i)) ≡ none
+  pub passed : Passed n (misfit number fits b) i
 
 module _ (number n : ℕ) (fits : ℕ → ℕ → Bool) (b : ℕ) where
   pub along-start : Along number n fits b 0
-  along-start = record { upto = zero-le; none = first-zero (λ i. faultIf (not (fits b i)) (refusal number b i)) }
+  along-start = record { passed = passed-start n (misfit number fits b) }
 
   module _ (i : ℕ) (t : Bool) (p : Along number n fits b i) (l : i < n) (e : t ≡ fits b i) where
+    found : (u : Bool) → not t ≡ u → faultIf u (refusal number b i) ≡ misfit number fits b i
+    found u q = ap (λ (x : Bool). faultIf x (refusal number b i)) (sym q ∙ ap not e)
+
     pub along-turn : not t ≡ false → Along number n fits b (i + 1)
-    along-turn q = record {
-      upto = omega arith;
-      none = first-more (λ i. faultIf (not (fits b i)) (refusal number b i)) (p .none) refl (ap (λ (x : Bool). faultIf x (refusal number b i)) (ap not (sym e) ∙ q));
-    }
+    along-turn q = record { passed = passed-turn n (misfit number fits b) i (p .passed) l (found false q) }
 
     pub along-stop : (o : Option Refusal) → not t ≡ true → o ≡ faultIf true (refusal number b i) → o ≡ boxMisfit number n fits b
     unfolding boxMisfit
-    along-stop o q s =
-        s
-        ∙ sym
-        (first-stop (λ i. faultIf (not (fits b i)) (refusal number b i)) n l (p .none) (ap (λ (x : Bool). faultIf x (refusal number b i)) (ap not (sym e) ∙ q)))
+    along-stop o q s = s ∙ passed-stop n (misfit number fits b) i (refusal number b i) (p .passed) l (found true q)
 
   pub along-end : (i : ℕ) → Along number n fits b i → n ≤ i → none ≡ boxMisfit number n fits b
   unfolding boxMisfit
-  along-end i p l =
-      sym (p .none) ∙ ap (λ (m : ℕ). firstBelow m (λ i. faultIf (not (fits b i)) (refusal number b i))) (le-antisymm (p .upto) l)
+  along-end i p l = passed-end n (misfit number fits b) i (p .passed) l
 
 -- ---- 6: the sites of a box, and the subjects used before
 
@@ -430,7 +424,7 @@ module _ (image : List ℕ) (k n : ℕ) where
   unfolding boxMisfit
   stand-held b r told e h =
       let fits = told .tells (of-true e) b h .fits in
-      sym (first-iff n (λ i. faultIf (not (treeFit (modelOf image) b i)) (refusal 8 b i)) .1 (λ i l. passed-iff (treeFit (modelOf image) b i) (refusal 8 b i) .1 (fits i l)))
+      sym (first-iff n (misfit 8 (treeFit (modelOf image)) b) .1 (λ i l. passed-iff (treeFit (modelOf image) b i) (refusal 8 b i) .1 (fits i l)))
 
 -- ---- 9: the reach of names in a box, and the names bound before
 
