@@ -2,27 +2,26 @@
 use mathlib.Core.Path.{_≡_, refl, sym, ap, ap₂, _∙_}
 use mathlib.Core.Bool.{Bool, true, false, not}
 use mathlib.Core.List.{List}
-use mathlib.Core.Logic.{⊎-elim}
 use mathlib.Core.Option.{Option, none, some}
 use Prim.Native.Nat.{ℕ, _+_, _*_, _%_, _≤_, _<_, zero-le}
 use native.Mathlib.Nat.{le-refl}
 use native.Mathlib.Omega.{arith}
 use native.Mathlib.Decide.{ℕ-discrete}
 use borrow.Author.Needs.{needs}
-use lib.Dec.{T, eqb, leb, ltb}
+use lib.Dec.{eqb, leb, ltb}
 use lib.ListN.{length}
 use mir.Syntax.{w64}
 use mir.Val.{Fits}
-use Rattle.definitions.specs.Bounded.{_and_, _or_, _implies_, _is_, _isnt_, _below_, _upto_, allBelow, faultIf, orElse, firstBelow}
+use Rattle.definitions.specs.Bounded.{_and_, _or_, _implies_, _is_, _isnt_, _below_, _upto_, faultIf, orElse, firstBelow}
 use Rattle.definitions.specs.Words.{blockOf, numberOf, kindOf, boxOf, countOf, spareOf, dataWord}
 use Rattle.definitions.specs.Check.{checkOf, checkHeld}
 use Rattle.definitions.specs.Answer.{Refusal, refusal}
 use Rattle.definitions.specs.Image.{boxesOf, lineBlocks, sitesBlock}
 use Rattle.definitions.specs.ReadModel.{blockFault, clearFrom, headCounts, headFault, sitesFault, linesFault, boxFault, leftOverFault, lengthFault, blocksFault}
-use Rattle.definitions.proofs.Bounded.{tests, and-iff, is-iff, below-iff, upto-iff, implies-iff, all-iff, true-of, false-of, of-true, not-false, same-test, left-none as neither}
+use Rattle.definitions.proofs.Bounded.{tests, and-iff, is-iff, below-iff, upto-iff, implies-iff, true-of, false-of, of-true, not-false, same-test, left-none as neither}
 use Rattle.definitions.proofs.Loops.{Passed, passed-start, passed-end, else-go, holds, fails}
-use Rattle.definitions.proofs.Faults.{faults, reached-iff}
-use Rattle.definitions.proofs.ReadModel.{head-iff, most-blocks, sites-most, sites-next, sites-first, blocks-1, blocks-2, blocks-3, blocks-4, count-missing}
+use Rattle.definitions.proofs.Faults.{reached-iff}
+use Rattle.definitions.proofs.ReadModel.{head-iff, most-blocks, sites-next, sites-first, blocks-1, blocks-2, blocks-3, blocks-4, count-missing}
 use Rattle.blocks.specs.declared.inside.Heading.{Heading}
 use Rattle.blocks.specs.Answers.{headingOf}
 use Rattle.model.specs.declared.Answer.{Answer}

@@ -4,7 +4,7 @@ use mathlib.Core.Bool.{Bool, true, false, not, _&&_, _||_}
 use mathlib.Core.Option.{Option, none, some}
 use Prim.Native.Nat.{ℕ, _+_, _<_}
 use Rattle.definitions.specs.Bounded.{_and_, _or_, _implies_, faultIf, orElse, firstBelow}
-use Rattle.definitions.specs.Answer.{Refusal, refusal}
+use Rattle.definitions.specs.Answer.{Refusal}
 use Rattle.definitions.proofs.Loops as loops
 use Rattle.model.specs.declared.Answer.{Answer}
 use Rattle.model.specs.declared.Answer.the-variants.{Held, Refused}

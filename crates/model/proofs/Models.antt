@@ -1,40 +1,36 @@
 -- Laws of the passes over the whole model, and of the reading. Assumes nothing.
-use mathlib.Core.Path.{_≡_, refl, sym, ap, ap₂, _∙_, subst}
+use mathlib.Core.Path.{_≡_, refl, sym, ap, ap₂, _∙_}
 use mathlib.Core.Bool.{Bool, true, false, not}
 use mathlib.Core.List.{List}
-use mathlib.Core.Option.{Option, none, some}
-use Prim.Native.Nat.{ℕ, zero, suc, _+_, _*_, _%_, _≤_, _<_, zero-le}
-use native.Mathlib.Nat.{le-refl, le-antisymm}
-use native.Mathlib.Numerals.{add-one}
+use mathlib.Core.Option.{Option, none}
+use Prim.Native.Nat.{ℕ, _+_, _*_, _%_, _≤_, _<_, zero-le}
 use native.Mathlib.Omega.{arith}
 use native.Mathlib.Decide.{ℕ-discrete, decLt}
 use borrow.Author.Needs.{needs}
-use lib.Dec.{T}
 use lib.ListN.{length, getD}
 use mir.Syntax.{w64}
 use mir.Val.{Fits}
-use Rattle.definitions.specs.Bounded.{_and_, _or_, _is_, _below_, anyBelow, faultIf, orElse, firstBelow}
+use Rattle.definitions.specs.Bounded.{_and_, _or_, _is_, _below_, anyBelow, faultIf, orElse}
 use Rattle.definitions.specs.Sets.{has}
 use Rattle.definitions.specs.Words.{blockOf, countOf}
 use Rattle.definitions.specs.Answer.{Refusal, refusal}
 use Rattle.definitions.specs.Model.{Site, Line, Box, Model, siteAt, lineAt, boxAt, siteCount, lineCount, boxCount, listed, isFree, kind, binds, bindsIn, owner}
-use Rattle.definitions.specs.Image.{siteRecord, nameCount, boxesOf, kindsOf, sitesBlock, linesOf, boxOfImage, modelOf}
-use Rattle.definitions.specs.ReadModel.{usedBefore, siteFits, treeFits, boundBefore, reachFits, firstMisfit, lengthFault, blocksFault, modelFault, readModel}
-use Rattle.definitions.proofs.Bounded.{and-iff, or-iff, is-iff, below-iff, any-cong, true-of, false-of, same-test, of-true, not-false, each-none, none-fault}
+use Rattle.definitions.specs.Image.{siteRecord, nameCount, boxesOf, kindsOf, modelOf}
+use Rattle.definitions.specs.ReadModel.{usedBefore, siteFits, boundBefore, reachFits, firstMisfit, lengthFault, blocksFault, modelFault, readModel}
+use Rattle.definitions.proofs.Bounded.{is-iff, below-iff, any-cong, true-of, false-of, of-true, not-false, each-none, none-fault}
 use Rattle.definitions.proofs.Loops.{Passed, passed-start, passed-end}
 use Rattle.definitions.proofs.Faults.{faults, else-iff}
 use Rattle.definitions.proofs.Sets.{has-none, or-false}
-use Rattle.definitions.proofs.Image.{model-count, model-box, model-names, kind-past, box-sites}
+use Rattle.definitions.proofs.Image.{model-count, model-box, model-names, kind-past}
 use Rattle.definitions.proofs.Valid.{owner-is}
 use Rattle.definitions.proofs.ReadModel.{Blocks, blocks-iff, length-iff, lines-most, lines-there, sites-there}
 use Rattle.model.specs.declared.Answer.{Answer}
 use Rattle.model.specs.declared.Answer.the-variants.{Held, Refused}
-use Rattle.model.specs.declared.Owner.{Owner}
 use Rattle.model.specs.declared.Owner.the-variants.{Nobody, Of}
 use Rattle.model.specs.declared.Refusal as code
 use Rattle.model.specs.declared.Layout.{Layout}
 use Rattle.model.specs.Records.{readOf}
-use Rattle.model.specs.Parts.{SetOf, KindsIn, LinesThere, LinesAt, SitesAt, TreesFit, boxMisfit, lineFit, treeFit, sitesMisfit, linesMisfit, treesMisfit, reachMisfit, subjectIn, isPlain, lacks, lineOf}
+use Rattle.model.specs.Parts.{SetOf, KindsIn, LinesAt, SitesAt, TreesFit, boxMisfit, lineFit, treeFit, sitesMisfit, linesMisfit, treesMisfit, reachMisfit, subjectIn, isPlain, lacks, lineOf}
 use Rattle.model.specs.Holds.{Holds}
 use Rattle.model.specs.Told.{OwnerTold}
 use Rattle.model.proofs.Firsts.{passed-held, passed-refused, else-stop, else-more, is-none}

@@ -3,22 +3,22 @@ use mathlib.Core.Path.{_≡_, refl, sym, ap, ap₂, _∙_, subst}
 use mathlib.Core.Bool.{Bool, true, false, not}
 use mathlib.Core.List.{List}
 use mathlib.Core.Logic.{_⊎_, inl, inr, ⊎-elim}
-use Prim.Native.Nat.{ℕ, zero, suc, _+_, _-_, _^_, _≤_, _<_}
+use Prim.Native.Nat.{ℕ, _-_, _^_, _≤_, _<_}
 use native.Mathlib.Omega.{arith}
 use native.Mathlib.Decide.{decLt}
 use borrow.Author.Needs.{needs}
 use borrow.Author.Tests.{eq-eqb, ne-eqb}
 use lib.Dec.{T, eqb, leb, ltb}
 use lib.ListN.{length}
-use Rattle.definitions.specs.Bounded.{_and_, _or_, _implies_, _is_, _isnt_, _below_, _upto_, allBelow, anyBelow}
-use Rattle.definitions.specs.Sets.{has, forEach, within, meets, size}
-use Rattle.definitions.specs.Model.{Site, Line, Box, Model, siteAt, lineAt, boxAt, lineCount, listed, isFree, kind, hasChild, binds, boundAbove}
-use Rattle.definitions.specs.ReadModel.{typeFits, usedBefore, siteFits, usesName1, usesName2, usesChild1, lineFits, childFits, treeFits, uses, boundBefore, reachFits}
-use Rattle.definitions.proofs.Bounded.{tests, and-iff, or-iff, implies-iff, is-iff, isnt-iff, below-iff, all-iff, true-of, false-of, of-true, not-false, same-test, decide, all-cong}
+use Rattle.definitions.specs.Bounded.{_and_, _or_, _implies_, _is_, _isnt_, _below_, _upto_, allBelow}
+use Rattle.definitions.specs.Sets.{has, within, meets, size}
+use Rattle.definitions.specs.Model.{Site, Line, boxAt, listed, isFree, kind, hasChild, binds, boundAbove}
+use Rattle.definitions.specs.ReadModel.{typeFits, usedBefore, siteFits, usesName1, usesName2, usesChild1, lineFits, uses, boundBefore, reachFits}
+use Rattle.definitions.proofs.Bounded.{tests, and-iff, or-iff, implies-iff, is-iff, below-iff, all-iff, true-of, false-of, of-true, not-false, same-test, decide}
 use Rattle.definitions.proofs.Faults.{not-iff}
-use Rattle.definitions.proofs.Sets.{has-none, has-above, has-not, or-false, forEach-iff, within-iff, meets-iff}
+use Rattle.definitions.proofs.Sets.{has-none, has-above, has-not, or-false, within-iff, meets-iff}
 use Rattle.model.specs.declared.fits.Kids.{Kids}
-use Rattle.model.specs.Parts.{SetOf, KindsIn, isPlain, putIf, keepIf, lacks, lineIs, putLine, putChildren, siteOk, shapeFit, namesFit, boundFit, exposeFit, lineOk, treeOk}
+use Rattle.model.specs.Parts.{SetOf, isPlain, putIf, keepIf, lacks, lineIs, putLine, putChildren, siteOk, shapeFit, namesFit, boundFit, exposeFit, lineOk, treeOk}
 use Rattle.model.specs.Told.{KidsOf, SiteTold, LineTold, ChildTold, TreeTold, ReachTold}
 
 -- ---- sets by a test

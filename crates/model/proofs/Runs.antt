@@ -2,29 +2,29 @@
 use mathlib.Core.Path.{_≡_, refl, sym, ap, ap₂, _∙_, subst}
 use mathlib.Core.Bool.{Bool, true, false, not}
 use mathlib.Core.List.{List}
-use mathlib.Core.Logic.{_⊎_, inl, inr, _≢_, ⊎-elim}
-use mathlib.Core.Option.{Option, none, some}
-use Prim.Native.Nat.{ℕ, zero, suc, _+_, _-_, _*_, _/_, _%_, _≤_, _<_, zero-le}
+use mathlib.Core.Logic.{inl, inr, _≢_, ⊎-elim}
+use mathlib.Core.Option.{Option, none}
+use Prim.Native.Nat.{ℕ, zero, suc, _+_, _-_, _*_, _/_, _≤_, _<_, zero-le}
 use native.Mathlib.Nat.{le-refl, le-antisymm}
 use native.Mathlib.Numerals.{add-one}
 use native.Mathlib.Omega.{arith}
-use native.Mathlib.Decide.{ℕ-discrete, decLt}
+use native.Mathlib.Decide.{ℕ-discrete}
 use borrow.Author.Needs.{needs}
 use lib.Dec.{T, eqb}
 use lib.ListN.{length, getD, set, length-set}
 use lib.Seq.{getD-set-same, getD-set-other}
-use Rattle.definitions.specs.Bounded.{_and_, _or_, _is_, _isnt_, _below_, _implies_, anyBelow, faultIf, orElse, firstBelow}
+use Rattle.definitions.specs.Bounded.{_and_, _or_, _is_, _isnt_, _below_, _implies_, anyBelow, faultIf}
 use Rattle.definitions.specs.Sets.{has}
 use Rattle.definitions.specs.Words.{blockOf, countOf}
 use Rattle.definitions.specs.Answer.{Refusal, refusal}
-use Rattle.definitions.specs.Model.{Site, Line, Box, Model, siteAt, lineAt, boxAt, siteCount, lineCount, boxCount, isFree, hasChild, binds, bindsIn, boundAbove}
-use Rattle.definitions.specs.Image.{siteRecord, lineRecord, boxesOf, kindsOf, sitesBlock, linesOf, boxOfImage, modelOf}
+use Rattle.definitions.specs.Model.{Site, Line, Box, siteAt, lineAt, boxAt, siteCount, lineCount, isFree, hasChild, binds, bindsIn, boundAbove}
+use Rattle.definitions.specs.Image.{siteRecord, modelOf}
 use Rattle.definitions.specs.ReadModel.{usedBefore, siteFits, lineFits, childFits, treeFits, boundBefore, reachFits}
-use Rattle.definitions.proofs.Bounded.{and-iff, or-iff, implies-iff, decide, any-iff, any-cong, is-iff, isnt-iff, true-of, false-of, of-true, not-false, same-test}
+use Rattle.definitions.proofs.Bounded.{and-iff, implies-iff, any-iff, any-cong, is-iff, isnt-iff, of-true, not-false}
 use Rattle.definitions.proofs.Loops.{Passed, passed-start, passed-turn, passed-stop, passed-end, holds}
 use Rattle.definitions.proofs.Faults.{first-iff, passed-iff}
 use Rattle.definitions.proofs.Sets.{has-none}
-use Rattle.definitions.proofs.Image.{model-count, model-box, box-sites, box-site, box-lines, box-line}
+use Rattle.definitions.proofs.Image.{model-box, box-sites, box-site, box-lines, box-line}
 use Rattle.definitions.proofs.Tree.{child-iff, child-of, above-child, above-root}
 use Rattle.model.specs.declared.fits.Kids.{Kids}
 use Rattle.model.specs.Parts.{SetOf, KindsIn, LinesThere, LinesAt, SitesAt, TreesFit, boxMisfit, lineFit, treeFit, subjectIn, boundIn, childIn, isPlain, lineIs, lineOf, putChildren, treeOk}

@@ -5,10 +5,10 @@ use Prim.Native.Nat.{ℕ, _≤_, _<_}
 use mathlib.Core.List.{List}
 use lib.Dec.{T}
 use lib.ListN.{length, getD}
-use Rattle.definitions.specs.Bounded.{_and_, _is_, _isnt_, _below_, anyBelow}
-use Rattle.definitions.specs.Model.{Site, Line, Box, Model, siteAt, lineAt, boxAt, lineCount, isFree, hasChild, boundAbove, owner}
+use Rattle.definitions.specs.Bounded.{_and_, _is_, _isnt_, _below_}
+use Rattle.definitions.specs.Model.{Site, Line, Model, siteAt, lineAt, boxAt, isFree, boundAbove, owner}
 use Rattle.definitions.specs.Image.{modelOf}
-use Rattle.definitions.specs.ReadModel.{usedBefore, siteFits, lineFits, treeFits, boundBefore, reachFits}
+use Rattle.definitions.specs.ReadModel.{usedBefore, siteFits, lineFits, boundBefore, reachFits}
 use Rattle.model.specs.declared.Layout.{Layout}
 use Rattle.model.specs.declared.Owner.{Owner}
 use Rattle.model.specs.declared.fits.Kids.{Kids}
