@@ -4,7 +4,7 @@ use mathlib.Core.Bool.{Bool, true, false, not}
 use mathlib.Core.List.{List}
 use mathlib.Core.Logic.{inl, inr, _≢_, ⊎-elim}
 use mathlib.Core.Option.{Option, none}
-use Prim.Native.Nat.{ℕ, zero, suc, _+_, _-_, _*_, _/_, _≤_, _<_, zero-le}
+use Prim.Native.Nat.{ℕ, zero, suc, _+_, _-_, _*_, _/_, _%_, _≤_, _<_, zero-le}
 use native.Mathlib.Nat.{le-refl, le-antisymm}
 use native.Mathlib.Numerals.{add-one}
 use native.Mathlib.Omega.{arith}
@@ -15,7 +15,7 @@ use lib.ListN.{length, getD, set, length-set}
 use lib.Seq.{getD-set-same, getD-set-other}
 use Rattle.definitions.specs.Bounded.{_and_, _or_, _is_, _isnt_, _below_, _implies_, anyBelow, faultIf}
 use Rattle.definitions.specs.Sets.{has}
-use Rattle.definitions.specs.Words.{blockOf, countOf}
+use Rattle.definitions.specs.Words.{wordAt, blockOf, countOf, dataWord}
 use Rattle.definitions.specs.Answer.{Refusal, refusal}
 use Rattle.definitions.specs.Model.{Site, Line, Box, siteAt, lineAt, boxAt, siteCount, lineCount, isFree, hasChild, binds, bindsIn, boundAbove}
 use Rattle.definitions.specs.Image.{siteRecord, modelOf}
@@ -24,6 +24,7 @@ use Rattle.definitions.proofs.Bounded.{and-iff, implies-iff, any-iff, any-cong,
 use Rattle.definitions.proofs.Loops.{Passed, passed-start, passed-turn, passed-stop, passed-end, holds}
 use Rattle.definitions.proofs.Faults.{first-iff, passed-iff}
 use Rattle.definitions.proofs.Sets.{has-none}
+use Rattle.definitions.proofs.Words.{dataWord-block}
 use Rattle.definitions.proofs.Image.{model-box, box-sites, box-site, box-lines, box-line}
 use Rattle.definitions.proofs.Tree.{child-iff, child-of, above-child, above-root}
 use Rattle.model.specs.declared.fits.Kids.{Kids}
@@ -46,6 +47,14 @@ or-assoc true b c = refl
 or-assoc false b c = refl
 
 -- ---- lines that are there
+
+-- the two words of line i, at their place in the image
+module _ (image : List ℕ) (k i w : ℕ) where
+  pub first-word : w ≡ wordAt image (512 * (k + 1) + (8 + 16 * (i + i / 31))) → w ≡ dataWord (blockOf image (k + 1 + i / 31)) (2 * (i % 31))
+  first-word e = e ∙ ap (wordAt image) (omega arith) ∙ sym (dataWord-block image (k + 1 + i / 31) (2 * (i % 31)) (omega arith))
+
+  pub second-word : w ≡ wordAt image (512 * (k + 1) + (8 + 16 * (i + i / 31)) + 8) → w ≡ dataWord (blockOf image (k + 1 + i / 31)) (2 * (i % 31) + 1)
+  second-word e = e ∙ ap (wordAt image) (omega arith) ∙ sym (dataWord-block image (k + 1 + i / 31) (2 * (i % 31) + 1) (omega arith))
 
 pub line-there : (image : List ℕ) (k n i : ℕ) → LinesThere image k n → i < n → 512 * (k + 1 + i / 31 + 1) ≤ length image
 line-there image k n i h l = h .there i l
