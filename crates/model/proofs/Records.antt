@@ -152,29 +152,29 @@ pub bound-is : (p q : ℕ → Bool) (l : Line) (a b one two r : Bool) → r ≡ 
 unfolding boundFit _is_
 bound-is p q l a b one two r e1 e2 e3 e4 e5 = cc
 
--- a field that is tested, and one that is not
-tested : (c a b : Bool) → c ≡ true → a ≡ ((c implies a) and (not c implies b))
+-- a rule by a test: where it holds the first part alone is asked, and else the second
+rule-yes : (c a b : Bool) → c ≡ true → a ≡ ((c implies a) and (not c implies b))
 unfolding _and_ _implies_
-tested true true b e = refl
-tested true false b e = refl
-tested false a b e = absurd (of-true e)
+rule-yes true true b e = refl
+rule-yes true false b e = refl
+rule-yes false a b e = absurd (of-true e)
 
-passed-by : (c a b : Bool) → c ≡ false → b ≡ ((c implies a) and (not c implies b))
+rule-no : (c a b : Bool) → c ≡ false → b ≡ ((c implies a) and (not c implies b))
 unfolding _and_ _implies_
-passed-by true a b e = absurd (not-false e tt)
-passed-by false a b e = refl
+rule-no true a b e = absurd (not-false e tt)
+rule-no false a b e = refl
 
 pub expose-yes : (p q : ℕ → Bool) (l : Line) (a type r : Bool) → l .op ≡ 6 → a ≡ q (l .name1) → type ≡ typeFits p (l .name1) (l .type)
     → r ≡ (a and type) → r ≡ exposeFit p q l
 unfolding exposeFit _is_ _isnt_
 expose-yes p q l a type r o ea et er =
     er ∙ ap₂ _and_ ea et
-    ∙ tested (eqb (l .op) 6) (q (l .name1) and typeFits p (l .name1) (l .type)) (eqb (l .type) 0) (eq-eqb (l .op) 6 o)
+    ∙ rule-yes (eqb (l .op) 6) (q (l .name1) and typeFits p (l .name1) (l .type)) (eqb (l .type) 0) (eq-eqb (l .op) 6 o)
 
 pub expose-no : (p q : ℕ → Bool) (l : Line) (r : Bool) → (l .op ≡ 6 → ⊥) → r ≡ eqb (l .type) 0 → r ≡ exposeFit p q l
 unfolding exposeFit _is_ _isnt_
 expose-no p q l r o e =
-    e ∙ passed-by (eqb (l .op) 6) (q (l .name1) and typeFits p (l .name1) (l .type)) (eqb (l .type) 0) (ne-eqb (l .op) 6 o)
+    e ∙ rule-no (eqb (l .op) 6) (q (l .name1) and typeFits p (l .name1) (l .type)) (eqb (l .type) 0) (ne-eqb (l .op) 6 o)
 
 line-fits : (kinds : List ℕ) (l : Line)
     → lineOk (listed kinds) (λ n. listed kinds n and kind kinds n is 1) (λ n. listed kinds n and kind kinds n is 2) (λ n. listed kinds n and kind kinds n is 3) l

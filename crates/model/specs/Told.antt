@@ -30,6 +30,7 @@ pub record LineTold (l : Line) (a r c e : ℕ) (fits : Bool) : Type 0 where
 pub record ChildTold (i c n : ℕ) (seen : Kids) (r : Bool) : Type 0 where
   pub tells : (p : ℕ → Bool) → KidsOf seen p → n ≤ 124 → r ≡ (i below c and c below n and not (p c))
 
+-- whatever the children of the lines before and those of all lines are
 pub record TreeTold (l : Line) (i n : ℕ) (seen all : Kids) (r : Bool) : Type 0 where
   pub tells : (p q : ℕ → Bool) → n ≤ 124 → i < n → KidsOf seen p → KidsOf all q → r ≡ treeOk l i n p q
 
