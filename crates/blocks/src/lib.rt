@@ -1,5 +1,5 @@
 // Blocks of 512 bytes: little-endian words, headings, data words and the check. The calls of this file take any image and any numbers,
-// and say so where the image does not hold the block whole. Those of `inside` require the block.
+// and say so where the image does not hold the block whole. Those of `inside` require the block, and those of `words` the bytes.
 ghost use mathlib.Core.Path.{_≡_};
 ghost use Prim.Native.Nat.{_+_, _*_};
 ghost use lib.ListN.{length};
@@ -9,7 +9,7 @@ ghost use Rattle.blocks.specs.Answers.{headingOf, ofBlock, ofWord, ofPla
 
 pub mod inside;
 mod sums;
-mod words;
+pub mod words;
 
 // A number read of a block.
 pub enum Number {

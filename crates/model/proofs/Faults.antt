@@ -2,26 +2,26 @@
 use mathlib.Core.Path.{_≡_, refl, sym, ap, ap₂, _∙_}
 use mathlib.Core.Bool.{Bool, true, false, not}
 use mathlib.Core.List.{List}
-use mathlib.Core.Logic.{⊎-elim}
 use mathlib.Core.Option.{Option, none, some}
 use Prim.Native.Nat.{ℕ, _+_, _*_, _%_, _≤_, _<_, zero-le}
 use native.Mathlib.Nat.{le-refl}
 use native.Mathlib.Omega.{arith}
 use native.Mathlib.Decide.{ℕ-discrete}
 use borrow.Author.Needs.{needs}
-use lib.Dec.{T, eqb, leb, ltb}
+use lib.Dec.{eqb, leb, ltb}
 use lib.ListN.{length}
 use mir.Syntax.{w64}
 use mir.Val.{Fits}
-use Rattle.definitions.specs.Bounded.{_and_, _or_, _implies_, _is_, _isnt_, _below_, _upto_, allBelow, faultIf, orElse, firstBelow}
+use Rattle.definitions.specs.Bounded.{_and_, _or_, _implies_, _is_, _isnt_, _below_, _upto_, faultIf, orElse, firstBelow}
 use Rattle.definitions.specs.Words.{blockOf, numberOf, kindOf, boxOf, countOf, spareOf, dataWord}
 use Rattle.definitions.specs.Check.{checkOf, checkHeld}
 use Rattle.definitions.specs.Answer.{Refusal, refusal}
 use Rattle.definitions.specs.Image.{boxesOf, lineBlocks, sitesBlock}
 use Rattle.definitions.specs.ReadModel.{blockFault, clearFrom, headCounts, headFault, sitesFault, linesFault, boxFault, leftOverFault, lengthFault, blocksFault}
-use Rattle.definitions.proofs.Bounded.{tests, and-iff, is-iff, below-iff, upto-iff, implies-iff, all-iff, true-of, false-of, of-true, not-false, same-test, left-none as neither}
-use Rattle.definitions.proofs.Faults.{faults, reached-iff}
-use Rattle.definitions.proofs.ReadModel.{head-iff, most-blocks, sites-most, sites-next, sites-first, blocks-1, blocks-2, blocks-3, blocks-4, count-missing}
+use Rattle.definitions.proofs.Bounded.{tests, and-iff, is-iff, below-iff, upto-iff, implies-iff, true-of, false-of, of-true, not-false, same-test, left-none as neither}
+use Rattle.definitions.proofs.Loops.{Passed, passed-start, passed-end, else-go, holds, fails}
+use Rattle.definitions.proofs.Faults.{reached-iff}
+use Rattle.definitions.proofs.ReadModel.{head-iff, most-blocks, sites-next, sites-first, blocks-1, blocks-2, blocks-3, blocks-4, count-missing}
 use Rattle.blocks.specs.declared.inside.Heading.{Heading}
 use Rattle.blocks.specs.Answers.{headingOf}
 use Rattle.model.specs.declared.Answer.{Answer}
@@ -29,17 +29,9 @@ use Rattle.model.specs.declared.Answer.the-variants.{Held, Refused}
 use Rattle.model.specs.declared.Refusal as code
 use Rattle.model.specs.Records.{readOf}
 use Rattle.model.specs.Parts.{topFault, countedFault, kindsFit, linesFaults, boxesFault}
-use Rattle.model.proofs.Firsts.{Passed, passed-start, passed-more, passed-stop, passed-end, else-stop, else-more, is-none, else-none, fault-yes}
+use Rattle.model.proofs.Firsts.{passed-held, passed-refused, else-stop, else-more, is-none, fault-yes}
 
 -- ---- a flag turned
-
-turned-true : (t : Bool) → not t ≡ true → t ≡ false
-turned-true true e = sym e
-turned-true false e = refl
-
-turned-false : (t : Bool) → not t ≡ false → t ≡ true
-turned-false true e = refl
-turned-false false e = sym e
 
 isnt-turned : (m n : ℕ) → (m isnt n) ≡ not (m is n)
 unfolding _isnt_ _is_
@@ -75,7 +67,7 @@ pub there : (image : List ℕ) (k : ℕ) (t : Bool) → t ≡ (512 * (k + 1) upt
 there image k t e q = upto-iff (512 * (k + 1)) (length image) .0 (of-true (sym e ∙ q))
 
 pub there-not : (image : List ℕ) (k : ℕ) (t : Bool) → t ≡ (512 * (k + 1) upto length image) → not t ≡ false → 512 * (k + 1) ≤ length image
-there-not image k t e q = there image k t e (turned-false t q)
+there-not image k t e q = there image k t e (holds t q)
 
 pub count-is : (block : List ℕ) (h : Heading) → h ≡ headingOf block → h .count ≡ countOf block
 count-is block h e = ap (λ (x : Heading). x .count) e
@@ -99,8 +91,8 @@ module _ (image : List ℕ) (k asked b : ℕ) (t : Bool) (held : t ≡ (512 * (k
       (sym (ap (λ (x : Bool). faultIf x (refusal 1 k 0)) (first-test ∙ q)))
 
   module _ (there : not t ≡ false) (u : Bool) (checked : u ≡ (checkOf (blockOf image k) is checkHeld (blockOf image k))) where
-    none-first : faultIf (length image below 512 * (k + 1)) (refusal 1 k 0) ≡ none
-    none-first = ap (λ (x : Bool). faultIf x (refusal 1 k 0)) (first-test ∙ there)
+    none-first : none ≡ faultIf (length image below 512 * (k + 1)) (refusal 1 k 0)
+    none-first = sym (ap (λ (x : Bool). faultIf x (refusal 1 k 0)) (first-test ∙ there))
 
     second-test : (checkOf (blockOf image k) isnt checkHeld (blockOf image k)) ≡ not u
     second-test = isnt-turned (checkOf (blockOf image k)) (checkHeld (blockOf image k)) ∙ ap not (sym checked)
@@ -108,7 +100,7 @@ module _ (image : List ℕ) (k asked b : ℕ) (t : Bool) (held : t ≡ (512 * (k
     pub top-check : (o : Option Refusal) → not u ≡ true → o ≡ faultIf true (refusal 2 k 0) → o ≡ topFault image k asked b
     unfolding topFault
     top-check o q s =
-        else-none _ _ o none-first
+        else-go _ _ o none-first
         (s
         ∙ ap (λ (x : Option Refusal). orElse x (faultIf (not (numberOf (blockOf image k) is k and kindOf (blockOf image k) is asked and boxOf (blockOf image k) is b and spareOf (blockOf image k) is 0)) (refusal 3 k 0)))
         (sym (ap (λ (x : Bool). faultIf x (refusal 2 k 0)) (second-test ∙ q))))
@@ -118,8 +110,8 @@ module _ (image : List ℕ) (k asked b : ℕ) (t : Bool) (held : t ≡ (512 * (k
         → o ≡ topFault image k asked b
     unfolding topFault
     top-heading h v o q e w s =
-        else-none _ _ o none-first
-        (else-none _ _ o (ap (λ (x : Bool). faultIf x (refusal 2 k 0)) (second-test ∙ q))
+        else-go _ _ o none-first
+        (else-go _ _ o (sym (ap (λ (x : Bool). faultIf x (refusal 2 k 0)) (second-test ∙ q)))
         (s
         ∙ ap (λ (x : Bool). faultIf (not x) (refusal 3 k 0))
         (w ∙ ap (λ (x : Heading). x .number is k and x .kind is asked and x .place is b and x .spare is 0) e)))
@@ -228,12 +220,12 @@ module _ (image : List ℕ) (b k n : ℕ) where
   module _ (j : ℕ) (f : Answer) (p : LinesPassed image b k n j) (l : j < n) (e : readOf f ≡ linesFault image (k + j) b j) where
     pub blocks-turn : f ≡ Held → LinesPassed image b k n (j + 1)
     blocks-turn q =
-        record { count = p .count; few = p .few; passed = passed-more n (λ j. linesFault image (k + j) b j) j f (p .passed) l e q }
+        record { count = p .count; few = p .few; passed = passed-held n (λ j. linesFault image (k + j) b j) j f (p .passed) l e q }
 
     pub blocks-halt : (x : code.Refusal) → f ≡ Refused x → readOf f ≡ linesFaults image b k
     unfolding linesFaults
     blocks-halt x q =
-        passed-stop n (λ j. linesFault image (k + j) b j) j f x (p .passed) l e q
+        passed-refused n (λ j. linesFault image (k + j) b j) j f (p .passed) l e x q
         ∙ ap (λ (i : ℕ). firstBelow i (λ j. linesFault image (k + j) b j)) (p .count)
 
   pub blocks-end : (j : ℕ) → LinesPassed image b k n j → n ≤ j → none ≡ linesFaults image b k
@@ -317,14 +309,14 @@ module _ (image : List ℕ) (f : Answer) (e : readOf f ≡ topFault image 0 1 0)
         → u ≡ clearFrom (2 + n) (blockOf image 0) → o ≡ faultIf (not u) (refusal 5 0 0) → o ≡ headFault image
     head-clear u n w o z v m d s =
         else-more _ _ o f e q
-        (else-none _ _ o (ap (λ (x : Bool). faultIf x (refusal 4 0 0)) (ap not (sym c) ∙ z))
+        (else-go _ _ o (sym (ap (λ (x : Bool). faultIf x (refusal 4 0 0)) (ap not (sym c) ∙ z)))
         (s ∙ ap (λ (x : Bool). faultIf (not x) (refusal 5 0 0)) (d ∙ ap (λ (i : ℕ). clearFrom (2 + i) (blockOf image 0)) (m ∙ v))))
         ∙ sym head-parts
 
 -- a head whose counts fit has at most 60 names
 pub head-few : (block : List ℕ) (t : Bool) (w : ℕ) → t ≡ headCounts block → not t ≡ false → w ≡ dataWord block 0 → w ≤ 60
 unfolding headCounts
-head-few block t w e q v = let p = simp tests at (of-true (sym e ∙ turned-false t q)) in omega (arith, p .0 .0 .1)
+head-few block t w e q v = let p = simp tests at (of-true (sym e ∙ holds t q)) in omega (arith, p .0 .0 .1)
 
 pub head-fits : (block : List ℕ) (t : Bool) (w : ℕ) → t ≡ headCounts block → not t ≡ false → w ≡ dataWord block 0 → Fits w64 (2 + w)
 head-fits block t w e q v = let h = head-few block t w e q v in omega arith
@@ -347,7 +339,7 @@ module _ (image : List ℕ) (k : ℕ) (t : Bool) (z : length image % 512 ≡ 0) 
       (left-parts false
       (false-of (512 * k below length image)
       (λ u. let h = below-iff (512 * k) (length image) .0 u in
-      not-false (sym e ∙ turned-true t q) (upto-iff (512 * (k + 1)) (length image) .1 (omega arith)))))
+      not-false (sym e ∙ fails t q) (upto-iff (512 * (k + 1)) (length image) .1 (omega arith)))))
 
   pub left-more : (u : Bool) (a b r : Answer) → not t ≡ false → u ≡ (checkOf (blockOf image k) is checkHeld (blockOf image k))
       → readOf a ≡ faultIf (not u) (refusal 2 k 0) → readOf b ≡ faultIf true (refusal 3 k 0) → readOf r ≡ orElse (readOf a) (readOf b)
@@ -376,7 +368,7 @@ module _ (image : List ℕ) (n : ℕ) where
         record {
           at = sites-next image b k m (p .at) c;
           small = (let h = most-blocks 4 image (k + 1) in let z = p .small in omega arith);
-          passed = passed-more n (boxFault image) b f (p .passed) l e q;
+          passed = passed-held n (boxFault image) b f (p .passed) l e q;
         }
 
     pub boxes-room : (m : ℕ) → n ≤ 8 → m ≡ lineBlocks 4 image (k + 1) → Fits w64 (k + 1 + m)
@@ -384,13 +376,13 @@ module _ (image : List ℕ) (n : ℕ) where
 
     pub boxes-halt : (x : code.Refusal) → f ≡ Refused x → readOf f ≡ boxesFault image n
     unfolding boxesFault
-    boxes-halt x q = else-stop _ _ f x (passed-stop n (boxFault image) b f x (p .passed) l e q) q
+    boxes-halt x q = else-stop _ _ f x (passed-refused n (boxFault image) b f (p .passed) l e x q) q
 
   pub boxes-end : (b k : ℕ) (o : Option Refusal) → BoxesPassed image n b k → n ≤ b → o ≡ leftOverFault image k → o ≡ boxesFault image n
   unfolding boxesFault
   boxes-end b k o p l s =
       let z : b ≡ n = omega (arith, p .passed .upto) in
-      else-none _ _ o (sym (passed-end n (boxFault image) b (p .passed) l))
+      else-go _ _ o (passed-end n (boxFault image) b (p .passed) l)
       (s ∙ ap (leftOverFault image) (p .at ∙ ap (sitesBlock image) z))
 
 module _ (image : List ℕ) (f : Answer) (e : readOf f ≡ headFault image) where

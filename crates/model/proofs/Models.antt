@@ -1,43 +1,40 @@
 -- Laws of the passes over the whole model, and of the reading. Assumes nothing.
-use mathlib.Core.Path.{_≡_, refl, sym, ap, ap₂, _∙_, subst}
+use mathlib.Core.Path.{_≡_, refl, sym, ap, ap₂, _∙_}
 use mathlib.Core.Bool.{Bool, true, false, not}
 use mathlib.Core.List.{List}
-use mathlib.Core.Option.{Option, none, some}
-use Prim.Native.Nat.{ℕ, zero, suc, _+_, _*_, _%_, _≤_, _<_, zero-le}
-use native.Mathlib.Nat.{le-refl, le-antisymm}
-use native.Mathlib.Numerals.{add-one}
+use mathlib.Core.Option.{Option, none}
+use Prim.Native.Nat.{ℕ, _+_, _*_, _%_, _≤_, _<_, zero-le}
 use native.Mathlib.Omega.{arith}
 use native.Mathlib.Decide.{ℕ-discrete, decLt}
 use borrow.Author.Needs.{needs}
-use lib.Dec.{T}
 use lib.ListN.{length, getD}
 use mir.Syntax.{w64}
 use mir.Val.{Fits}
-use Rattle.definitions.specs.Bounded.{_and_, _or_, _is_, _below_, anyBelow, faultIf, orElse, firstBelow}
+use Rattle.definitions.specs.Bounded.{_and_, _or_, _is_, _below_, anyBelow, faultIf, orElse}
 use Rattle.definitions.specs.Sets.{has}
 use Rattle.definitions.specs.Words.{blockOf, countOf}
 use Rattle.definitions.specs.Answer.{Refusal, refusal}
 use Rattle.definitions.specs.Model.{Site, Line, Box, Model, siteAt, lineAt, boxAt, siteCount, lineCount, boxCount, listed, isFree, kind, binds, bindsIn, owner}
-use Rattle.definitions.specs.Image.{siteRecord, nameCount, boxesOf, kindsOf, sitesBlock, linesOf, boxOfImage, modelOf}
-use Rattle.definitions.specs.ReadModel.{usedBefore, siteFits, treeFits, boundBefore, reachFits, firstMisfit, lengthFault, blocksFault, modelFault, readModel}
-use Rattle.definitions.proofs.Bounded.{and-iff, or-iff, is-iff, below-iff, any-cong, true-of, false-of, same-test, of-true, not-false, first-zero, first-more, first-stop, each-none, none-fault}
+use Rattle.definitions.specs.Image.{siteRecord, nameCount, boxesOf, kindsOf, modelOf}
+use Rattle.definitions.specs.ReadModel.{usedBefore, siteFits, boundBefore, reachFits, firstMisfit, lengthFault, blocksFault, modelFault, readModel}
+use Rattle.definitions.proofs.Bounded.{is-iff, below-iff, any-cong, true-of, false-of, of-true, not-false, each-none, none-fault}
+use Rattle.definitions.proofs.Loops.{Passed, passed-start, passed-end}
 use Rattle.definitions.proofs.Faults.{faults, else-iff}
-use Rattle.definitions.proofs.Sets.{has-none}
-use Rattle.definitions.proofs.Image.{model-count, model-box, model-names, kind-past, box-sites}
+use Rattle.definitions.proofs.Sets.{has-none, or-false}
+use Rattle.definitions.proofs.Image.{model-count, model-box, model-names, kind-past}
 use Rattle.definitions.proofs.Valid.{owner-is}
 use Rattle.definitions.proofs.ReadModel.{Blocks, blocks-iff, length-iff, lines-most, lines-there, sites-there}
 use Rattle.model.specs.declared.Answer.{Answer}
 use Rattle.model.specs.declared.Answer.the-variants.{Held, Refused}
-use Rattle.model.specs.declared.Owner.{Owner}
 use Rattle.model.specs.declared.Owner.the-variants.{Nobody, Of}
 use Rattle.model.specs.declared.Refusal as code
 use Rattle.model.specs.declared.Layout.{Layout}
 use Rattle.model.specs.Records.{readOf}
-use Rattle.model.specs.Parts.{SetOf, KindsIn, LinesThere, LinesAt, SitesAt, TreesFit, boxMisfit, lineFit, treeFit, sitesMisfit, linesMisfit, treesMisfit, reachMisfit, subjectIn, isPlain, lacks, lineOf}
+use Rattle.model.specs.Parts.{SetOf, KindsIn, LinesAt, SitesAt, TreesFit, boxMisfit, lineFit, treeFit, sitesMisfit, linesMisfit, treesMisfit, reachMisfit, subjectIn, isPlain, lacks, lineOf}
 use Rattle.model.specs.Holds.{Holds}
 use Rattle.model.specs.Told.{OwnerTold}
-use Rattle.model.proofs.Firsts.{else-stop, else-more, is-none}
-use Rattle.model.proofs.Runs.{any-more, any-zero, or-false, site-at, site-count, line-at, line-count}
+use Rattle.model.proofs.Firsts.{passed-held, passed-refused, else-stop, else-more, is-none}
+use Rattle.model.proofs.Runs.{any-more, any-zero, site-at, site-count, line-at, line-count}
 
 first : (b : Bool) → ((true and b) or not true) ≡ b
 unfolding _and_ _or_
@@ -147,32 +144,31 @@ module _ (image : List ℕ) (l : Layout) (f : blocksFault image ≡ none) (h : H
 
 -- ---- boxes ascending
 
+-- the first misfit of box b of a model
+abbrev ofBox : ℕ → Model → (Box → ℕ) → (ℕ → ℕ → Bool) → ℕ → Option Refusal
+ofBox number m count fits b = boxMisfit number (count (boxAt m b)) fits b
+
 pub record Through (number : ℕ) (m : Model) (count : Box → ℕ) (fits : ℕ → ℕ → Bool) (b : ℕ) : Type 0 where
-  pub upto : b ≤ boxCount m
-  pub none : firstBelow b (λ b. boxMisfit number (count (boxAt m b)) fits b) ≡ none
+  pub passed : Passed (boxCount m) (ofBox number m count fits) b
 
 module _ (number : ℕ) (m : Model) (count : Box → ℕ) (fits : ℕ → ℕ → Bool) where
   through-start : Through number m count fits 0
-  through-start = record { upto = zero-le; none = first-zero (λ b. boxMisfit number (count (boxAt m b)) fits b) }
+  through-start = record { passed = passed-start (boxCount m) (ofBox number m count fits) }
 
   module _ (b n : ℕ) (f : Answer) (p : Through number m count fits b) (l : b < boxCount m) (c : n ≡ count (boxAt m b)) (e : readOf f ≡ boxMisfit number n fits b) where
+    found : readOf f ≡ ofBox number m count fits b
+    found = e ∙ ap (λ (i : ℕ). boxMisfit number i fits b) c
+
     through-turn : f ≡ Held → Through number m count fits (b + 1)
-    through-turn q = record {
-      upto = omega arith;
-      none = first-more (λ b. boxMisfit number (count (boxAt m b)) fits b) (p .none) (e ∙ ap (λ (i : ℕ). boxMisfit number i fits b) c) (ap readOf q);
-    }
+    through-turn q = record { passed = passed-held (boxCount m) (ofBox number m count fits) b f (p .passed) l found q }
 
     through-stop : (x : code.Refusal) → f ≡ Refused x → readOf f ≡ firstMisfit number m count fits
     unfolding firstMisfit boxMisfit
-    through-stop x q =
-        ap readOf q
-        ∙ sym (first-stop (λ b. boxMisfit number (count (boxAt m b)) fits b) (boxCount m) l (p .none)
-        (sym (e ∙ ap (λ (i : ℕ). boxMisfit number i fits b) c) ∙ ap readOf q))
+    through-stop x q = passed-refused (boxCount m) (ofBox number m count fits) b f (p .passed) l found x q
 
   through-end : (b : ℕ) → Through number m count fits b → boxCount m ≤ b → none ≡ firstMisfit number m count fits
   unfolding firstMisfit boxMisfit
-  through-end b p l =
-      sym (p .none) ∙ ap (λ (i : ℕ). firstBelow i (λ b. boxMisfit number (count (boxAt m b)) fits b)) (le-antisymm (p .upto) l)
+  through-end b p l = passed-end (boxCount m) (ofBox number m count fits) b (p .passed) l
 
 -- ---- 6
 

@@ -3,21 +3,22 @@ use mathlib.Core.Path.{_≡_, refl, sym, ap, ap₂, _∙_, subst}
 use mathlib.Core.Bool.{Bool, true, false, not}
 use mathlib.Core.List.{List}
 use mathlib.Core.Logic.{_⊎_, inl, inr, ⊎-elim}
-use Prim.Native.Nat.{ℕ, zero, suc, _+_, _-_, _^_, _≤_, _<_}
+use Prim.Native.Nat.{ℕ, _-_, _^_, _≤_, _<_}
 use native.Mathlib.Omega.{arith}
 use native.Mathlib.Decide.{decLt}
 use borrow.Author.Needs.{needs}
+use borrow.Author.Tests.{eq-eqb, ne-eqb}
 use lib.Dec.{T, eqb, leb, ltb}
 use lib.ListN.{length}
-use Rattle.definitions.specs.Bounded.{_and_, _or_, _implies_, _is_, _isnt_, _below_, _upto_, allBelow, anyBelow}
-use Rattle.definitions.specs.Sets.{has, forEach, within, meets, size}
-use Rattle.definitions.specs.Model.{Site, Line, Box, Model, siteAt, lineAt, boxAt, lineCount, listed, isFree, kind, hasChild, binds, boundAbove}
-use Rattle.definitions.specs.ReadModel.{typeFits, usedBefore, siteFits, usesName1, usesName2, usesChild1, lineFits, childFits, treeFits, uses, boundBefore, reachFits}
-use Rattle.definitions.proofs.Bounded.{tests, and-iff, or-iff, implies-iff, is-iff, isnt-iff, below-iff, all-iff, true-of, false-of, of-true, not-false, same-test, decide, all-cong}
+use Rattle.definitions.specs.Bounded.{_and_, _or_, _implies_, _is_, _isnt_, _below_, _upto_, allBelow}
+use Rattle.definitions.specs.Sets.{has, within, meets, size}
+use Rattle.definitions.specs.Model.{Site, Line, boxAt, listed, isFree, kind, hasChild, binds, boundAbove}
+use Rattle.definitions.specs.ReadModel.{typeFits, usedBefore, siteFits, usesName1, usesName2, usesChild1, lineFits, uses, boundBefore, reachFits}
+use Rattle.definitions.proofs.Bounded.{tests, and-iff, or-iff, implies-iff, is-iff, below-iff, all-iff, true-of, false-of, of-true, not-false, same-test, decide}
 use Rattle.definitions.proofs.Faults.{not-iff}
-use Rattle.definitions.proofs.Sets.{has-none, has-above, has-not, or-false, forEach-iff, within-iff, meets-iff}
+use Rattle.definitions.proofs.Sets.{has-none, has-above, has-not, or-false, within-iff, meets-iff}
 use Rattle.model.specs.declared.fits.Kids.{Kids}
-use Rattle.model.specs.Parts.{SetOf, KindsIn, isPlain, putIf, keepIf, lacks, lineIs, putLine, putChildren, siteOk, shapeFit, namesFit, boundFit, exposeFit, lineOk}
+use Rattle.model.specs.Parts.{SetOf, isPlain, putIf, keepIf, lacks, lineIs, putLine, putChildren, siteOk, shapeFit, namesFit, boundFit, exposeFit, lineOk, treeOk}
 use Rattle.model.specs.Told.{KidsOf, SiteTold, LineTold, ChildTold, TreeTold, ReachTold}
 
 -- ---- sets by a test
@@ -151,11 +152,29 @@ pub bound-is : (p q : ℕ → Bool) (l : Line) (a b one two r : Bool) → r ≡ 
 unfolding boundFit _is_
 bound-is p q l a b one two r e1 e2 e3 e4 e5 = cc
 
-pub expose-is : (p q : ℕ → Bool) (l : Line) (a type shown one two r : Bool) → r ≡ (one and two) → one ≡ (eqb (l .op) 6 implies shown)
-    → shown ≡ (a and type) → a ≡ q (l .name1) → type ≡ typeFits p (l .name1) (l .type) → two ≡ (not (eqb (l .op) 6) implies eqb (l .type) 0)
-    → r ≡ exposeFit p q l
+-- a rule by a test: where it holds the first part alone is asked, and else the second
+rule-yes : (c a b : Bool) → c ≡ true → a ≡ ((c implies a) and (not c implies b))
+unfolding _and_ _implies_
+rule-yes true true b e = refl
+rule-yes true false b e = refl
+rule-yes false a b e = absurd (of-true e)
+
+rule-no : (c a b : Bool) → c ≡ false → b ≡ ((c implies a) and (not c implies b))
+unfolding _and_ _implies_
+rule-no true a b e = absurd (not-false e tt)
+rule-no false a b e = refl
+
+pub expose-yes : (p q : ℕ → Bool) (l : Line) (a type r : Bool) → l .op ≡ 6 → a ≡ q (l .name1) → type ≡ typeFits p (l .name1) (l .type)
+    → r ≡ (a and type) → r ≡ exposeFit p q l
 unfolding exposeFit _is_ _isnt_
-expose-is p q l a type shown one two r e1 e2 e3 e4 e5 e6 = cc
+expose-yes p q l a type r o ea et er =
+    er ∙ ap₂ _and_ ea et
+    ∙ rule-yes (eqb (l .op) 6) (q (l .name1) and typeFits p (l .name1) (l .type)) (eqb (l .type) 0) (eq-eqb (l .op) 6 o)
+
+pub expose-no : (p q : ℕ → Bool) (l : Line) (r : Bool) → (l .op ≡ 6 → ⊥) → r ≡ eqb (l .type) 0 → r ≡ exposeFit p q l
+unfolding exposeFit _is_ _isnt_
+expose-no p q l r o e =
+    e ∙ rule-no (eqb (l .op) 6) (q (l .name1) and typeFits p (l .name1) (l .type)) (eqb (l .type) 0) (ne-eqb (l .op) 6 o)
 
 line-fits : (kinds : List ℕ) (l : Line)
     → lineOk (listed kinds) (λ n. listed kinds n and kind kinds n is 1) (λ n. listed kinds n and kind kinds n is 2) (λ n. listed kinds n and kind kinds n is 3) l
@@ -310,29 +329,17 @@ child-told i c n seen a k r ea ek er = record { tells = λ p kids few. pick p ki
     pick p kids few (yes l) = raw ∙ ap (λ (t : Bool). ltb i c and ltb c n and not t) (ek (omega arith) ∙ kids .at c (omega arith))
     pick p kids few (no l) = raw ∙ none (omega arith) k ∙ sym (none (omega arith) (p c))
 
--- the test of 8 of a line l, as line i of n, over the children before and all
-unfoldable pub treeOk : Line → ℕ → ℕ → (ℕ → Bool) → (ℕ → Bool) → Bool
-treeOk l i n before all =
-    (l .op isnt 0 implies (i below l .child1 and l .child1 below n and not (before (l .child1))))
-    and (l .op is 1 implies (i below l .child2 and l .child2 below n and not (before (l .child2))) and l .child1 isnt l .child2)
-    and (i isnt 0 implies all i)
-
 pub tree-told : (l : Line) (i n : ℕ) (seen all : Kids) (f g s h kid x y z r : Bool) → ChildTold i (l .child1) n seen f → ChildTold i (l .child2) n seen g
     → s ≡ (g and not (eqb (l .child1) (l .child2))) → (i < 128 → h ≡ lineIs (all .low) (all .high) i) → kid ≡ (not (eqb i 0) implies h)
     → x ≡ (not (eqb (l .op) 0) implies f) → y ≡ (eqb (l .op) 1 implies s) → z ≡ (x and y) → r ≡ (z and kid) → TreeTold l i n seen all r
-unfolding treeOk treeFits childFits _is_ _isnt_
+unfolding treeOk _is_ _isnt_
 tree-told l i n seen all f g s h kid x y z r tf tg es eh ek ex ey ez er = record {
-  tells = λ box count few low before named e.
-      raw (λ c. anyBelow i (λ j. hasChild (lineAt box j) c)) (λ c. anyBelow n (λ j. hasChild (lineAt box j) c)) few low before named
-      ∙ ap₂ (λ (l : Line) (n : ℕ). treeOk l i n (λ c. anyBelow i (λ j. hasChild (lineAt box j) c)) (λ c. anyBelow n (λ j. hasChild (lineAt box j) c))) e count;
+  tells = λ p q few low before named.
+      let e1 = tf .tells p before few in
+      let e2 = tg .tells p before few in
+      let e3 : h ≡ q i = eh (omega arith) ∙ named .at i (omega arith) in
+      cc;
 }
-  where
-    raw : (p q : ℕ → Bool) → n ≤ 124 → i < n → KidsOf seen p → KidsOf all q → r ≡ treeOk l i n p q
-    raw p q few low before named =
-        let e1 = tf .tells p before few in
-        let e2 = tg .tells p before few in
-        let e3 : h ≡ q i = eh (omega arith) ∙ named .at i (omega arith) in
-        cc
 
 -- ---- 9
 
@@ -365,4 +372,4 @@ reach-told l plain above bound us v bs w mt r u un ew bi em er = record {
       ∙ ap (λ (l : Line). allBelow 64 (λ n. (uses l n implies kind kinds n is 0 or boundAbove x i n) and (binds l n implies not (boundBefore m b i n)))) e;
 }
 
-pub ruleset records = (needs, with-yes, with-no, when-yes, when-no, others-is, binds-is, uses-is, type-is, site-told, shape-is, names-is, bound-is, expose-is, line-told, kid-low, kid-high, kid-past, put-low, put-high, put-past, children-is, child-told, tree-told, reach-told)
+pub ruleset records = (needs, with-yes, with-no, when-yes, when-no, others-is, binds-is, uses-is, type-is, site-told, shape-is, names-is, bound-is, expose-yes, expose-no, line-told, kid-low, kid-high, kid-past, put-low, put-high, put-past, children-is, child-told, tree-told, reach-told)

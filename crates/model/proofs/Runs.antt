@@ -2,31 +2,34 @@
 use mathlib.Core.Path.{_≡_, refl, sym, ap, ap₂, _∙_, subst}
 use mathlib.Core.Bool.{Bool, true, false, not}
 use mathlib.Core.List.{List}
-use mathlib.Core.Logic.{_⊎_, inl, inr, _≢_, ⊎-elim}
-use mathlib.Core.Option.{Option, none, some}
+use mathlib.Core.Logic.{inl, inr, _≢_, ⊎-elim}
+use mathlib.Core.Option.{Option, none}
 use Prim.Native.Nat.{ℕ, zero, suc, _+_, _-_, _*_, _/_, _%_, _≤_, _<_, zero-le}
 use native.Mathlib.Nat.{le-refl, le-antisymm}
 use native.Mathlib.Numerals.{add-one}
 use native.Mathlib.Omega.{arith}
-use native.Mathlib.Decide.{ℕ-discrete, decLt}
+use native.Mathlib.Decide.{ℕ-discrete}
 use borrow.Author.Needs.{needs}
 use lib.Dec.{T, eqb}
 use lib.ListN.{length, getD, set, length-set}
 use lib.Seq.{getD-set-same, getD-set-other}
-use Rattle.definitions.specs.Bounded.{_and_, _or_, _is_, _isnt_, _below_, _implies_, anyBelow, faultIf, orElse, firstBelow}
+use Rattle.definitions.specs.Bounded.{_and_, _or_, _is_, _isnt_, _below_, _implies_, anyBelow, faultIf}
 use Rattle.definitions.specs.Sets.{has}
-use Rattle.definitions.specs.Words.{blockOf, countOf}
+use Rattle.definitions.specs.Words.{wordAt, blockOf, countOf, dataWord}
 use Rattle.definitions.specs.Answer.{Refusal, refusal}
-use Rattle.definitions.specs.Model.{Site, Line, Box, Model, siteAt, lineAt, boxAt, siteCount, lineCount, boxCount, isFree, hasChild, binds, bindsIn, boundAbove}
-use Rattle.definitions.specs.Image.{siteRecord, lineRecord, boxesOf, kindsOf, sitesBlock, linesOf, boxOfImage, modelOf}
-use Rattle.definitions.specs.ReadModel.{usedBefore, siteFits, lineFits, treeFits, boundBefore, reachFits}
-use Rattle.definitions.proofs.Bounded.{and-iff, or-iff, implies-iff, decide, any-iff, any-cong, is-iff, isnt-iff, true-of, false-of, of-true, not-false, same-test, first-zero, first-more, first-stop}
+use Rattle.definitions.specs.Model.{Site, Line, Box, siteAt, lineAt, boxAt, siteCount, lineCount, isFree, hasChild, binds, bindsIn, boundAbove}
+use Rattle.definitions.specs.Image.{siteRecord, modelOf}
+use Rattle.definitions.specs.ReadModel.{usedBefore, siteFits, lineFits, childFits, treeFits, boundBefore, reachFits}
+use Rattle.definitions.proofs.Bounded.{and-iff, implies-iff, any-iff, any-cong, is-iff, isnt-iff, of-true, not-false}
+use Rattle.definitions.proofs.Loops.{Passed, passed-start, passed-turn, passed-stop, passed-end, holds}
+use Rattle.definitions.proofs.Faults.{first-iff, passed-iff}
 use Rattle.definitions.proofs.Sets.{has-none}
-use Rattle.definitions.proofs.Image.{model-count, model-box, box-sites, box-site, box-lines, box-line}
+use Rattle.definitions.proofs.Words.{dataWord-block}
+use Rattle.definitions.proofs.Image.{model-box, box-sites, box-site, box-lines, box-line}
 use Rattle.definitions.proofs.Tree.{child-iff, child-of, above-child, above-root}
 use Rattle.model.specs.declared.fits.Kids.{Kids}
-use Rattle.model.specs.Parts.{SetOf, KindsIn, LinesThere, LinesAt, SitesAt, TreesFit, boxMisfit, lineFit, treeFit, subjectIn, boundIn, childIn, isPlain, lineIs, lineOf, putChildren}
-use Rattle.model.specs.Told.{KidsOf, PutAt, HandedDown, AboveTold, SiteTold, LineTold, TreeTold, ReachTold}
+use Rattle.model.specs.Parts.{SetOf, KindsIn, LinesThere, LinesAt, SitesAt, TreesFit, boxMisfit, lineFit, treeFit, subjectIn, boundIn, childIn, isPlain, lineIs, lineOf, putChildren, treeOk}
+use Rattle.model.specs.Told.{KidsOf, StandsTold, PutAt, HandedDown, AboveTold, SiteTold, LineTold, TreeTold, ReachTold}
 
 -- ---- one more
 
@@ -43,12 +46,15 @@ unfolding _or_
 or-assoc true b c = refl
 or-assoc false b c = refl
 
-pub or-false : (a : Bool) → (a or false) ≡ a
-unfolding _or_
-or-false true = refl
-or-false false = refl
-
 -- ---- lines that are there
+
+-- the two words of line i, at their place in the image
+module _ (image : List ℕ) (k i w : ℕ) where
+  pub first-word : w ≡ wordAt image (512 * (k + 1) + (8 + 16 * (i + i / 31))) → w ≡ dataWord (blockOf image (k + 1 + i / 31)) (2 * (i % 31))
+  first-word e = e ∙ ap (wordAt image) (omega arith) ∙ sym (dataWord-block image (k + 1 + i / 31) (2 * (i % 31)) (omega arith))
+
+  pub second-word : w ≡ wordAt image (512 * (k + 1) + (8 + 16 * (i + i / 31)) + 8) → w ≡ dataWord (blockOf image (k + 1 + i / 31)) (2 * (i % 31) + 1)
+  second-word e = e ∙ ap (wordAt image) (omega arith) ∙ sym (dataWord-block image (k + 1 + i / 31) (2 * (i % 31) + 1) (omega arith))
 
 pub line-there : (image : List ℕ) (k n i : ℕ) → LinesThere image k n → i < n → 512 * (k + 1 + i / 31 + 1) ≤ length image
 line-there image k n i h l = h .there i l
@@ -262,32 +268,31 @@ climb-long image k n i up p = p .long
 
 -- ---- the first record that does not fit
 
+-- the fault of record i of box b, where it does not fit
+abbrev misfit : ℕ → (ℕ → ℕ → Bool) → ℕ → ℕ → Option Refusal
+misfit number fits b i = faultIf (not (fits b i)) (refusal number b i)
+
 pub record Along (number n : ℕ) (fits : ℕ → ℕ → Bool) (b i : ℕ) : Type 0 where
-  pub upto : i ≤ n
-  pub none : firstBelow i (λ i. faultIf (not (fits b i)) (refusal number b i)) ≡ none
+  pub passed : Passed n (misfit number fits b) i
 
 module _ (number n : ℕ) (fits : ℕ → ℕ → Bool) (b : ℕ) where
   pub along-start : Along number n fits b 0
-  along-start = record { upto = zero-le; none = first-zero (λ i. faultIf (not (fits b i)) (refusal number b i)) }
+  along-start = record { passed = passed-start n (misfit number fits b) }
 
   module _ (i : ℕ) (t : Bool) (p : Along number n fits b i) (l : i < n) (e : t ≡ fits b i) where
+    found : (u : Bool) → not t ≡ u → faultIf u (refusal number b i) ≡ misfit number fits b i
+    found u q = ap (λ (x : Bool). faultIf x (refusal number b i)) (sym q ∙ ap not e)
+
     pub along-turn : not t ≡ false → Along number n fits b (i + 1)
-    along-turn q = record {
-      upto = omega arith;
-      none = first-more (λ i. faultIf (not (fits b i)) (refusal number b i)) (p .none) refl (ap (λ (x : Bool). faultIf x (refusal number b i)) (ap not (sym e) ∙ q));
-    }
+    along-turn q = record { passed = passed-turn n (misfit number fits b) i (p .passed) l (found false q) }
 
     pub along-stop : (o : Option Refusal) → not t ≡ true → o ≡ faultIf true (refusal number b i) → o ≡ boxMisfit number n fits b
     unfolding boxMisfit
-    along-stop o q s =
-        s
-        ∙ sym
-        (first-stop (λ i. faultIf (not (fits b i)) (refusal number b i)) n l (p .none) (ap (λ (x : Bool). faultIf x (refusal number b i)) (ap not (sym e) ∙ q)))
+    along-stop o q s = s ∙ passed-stop n (misfit number fits b) i (refusal number b i) (p .passed) l (found true q)
 
   pub along-end : (i : ℕ) → Along number n fits b i → n ≤ i → none ≡ boxMisfit number n fits b
   unfolding boxMisfit
-  along-end i p l =
-      sym (p .none) ∙ ap (λ (m : ℕ). firstBelow m (λ i. faultIf (not (fits b i)) (refusal number b i))) (le-antisymm (p .upto) l)
+  along-end i p l = passed-end n (misfit number fits b) i (p .passed) l
 
 -- ---- 6: the sites of a box, and the subjects used before
 
@@ -344,6 +349,12 @@ pub record TreeRun (image : List ℕ) (b k n i : ℕ) (seen : Kids) : Type 0 whe
 pub tree-start : (image : List ℕ) (b k n : ℕ) → TreeRun image b k n 0 (record { low = 0; high = 0 })
 tree-start image b k n = record { along = along-start 8 n (treeFit (modelOf image)) b; children = child-start image k }
 
+tree-fits : (x : Box) (l : Line) (i n : ℕ) → n ≡ lineCount x → l ≡ lineAt x i
+    → treeOk l i n (λ c. anyBelow i (λ j. hasChild (lineAt x j) c)) (λ c. anyBelow n (λ j. hasChild (lineAt x j) c)) ≡ treeFits x i
+unfolding treeOk treeFits childFits
+tree-fits x l i n count e =
+    ap₂ (λ (l : Line) (n : ℕ). treeOk l i n (λ c. anyBelow i (λ j. hasChild (lineAt x j) c)) (λ c. anyBelow n (λ j. hasChild (lineAt x j) c))) e count
+
 children-at : (image : List ℕ) (b k n i : ℕ) (s : Kids) → LinesAt image b k n → i ≤ n → KidsOf s (childIn image k i)
     → KidsOf s (λ c. anyBelow i (λ j. hasChild (lineAt (boxAt (modelOf image) b) j) c))
 unfolding childIn
@@ -357,8 +368,8 @@ module _ (image : List ℕ) (b k n i : ℕ) (x : Line) (seen all : Kids) (t : Bo
     (q : x ≡ lineOf image k i) (kids : KidsOf all (childIn image k n)) (told : TreeTold x i n seen all t) where
   tree-judged : t ≡ treeFit (modelOf image) b i
   tree-judged =
-      told .tells (boxAt (modelOf image) b) (line-count image b k n h) (h .held .few) l (children-at image b k n i seen h (omega arith) (p .children))
-      (children-at image b k n n all h (le-refl n) kids) (q ∙ line-at image b k n h i l)
+      told .tells _ _ (h .held .few) l (children-at image b k n i seen h (omega arith) (p .children)) (children-at image b k n n all h (le-refl n) kids)
+      ∙ tree-fits (boxAt (modelOf image) b) x i n (line-count image b k n h) (q ∙ line-at image b k n h i l)
 
   pub tree-turn : (r : Kids) → not t ≡ false → KidsOf r (putChildren (seen .low) (seen .high) x) → TreeRun image b k n (i + 1) r
   tree-turn r z f = record {
@@ -371,6 +382,58 @@ module _ (image : List ℕ) (b k n i : ℕ) (x : Line) (seen all : Kids) (t : Bo
 
 pub tree-end : (image : List ℕ) (b k n i : ℕ) (s : Kids) → TreeRun image b k n i s → n ≤ i → none ≡ boxMisfit 8 n (treeFit (modelOf image)) b
 tree-end image b k n i s p l = along-end 8 n (treeFit (modelOf image)) b i (p .along) l
+
+-- ---- 8 by the lines before alone
+
+-- a test passed with fewer children passes with more
+tree-more : (l : Line) (i n : ℕ) (p q r : ℕ → Bool) → (T (q i) → T (r i)) → T (treeOk l i n p q) → T (treeOk l i n p r)
+unfolding treeOk
+tree-more l i n p q r f t =
+    let s = and-iff _ (i isnt 0 implies q i) .0 t in
+    and-iff _ (i isnt 0 implies r i) .1 (s .0, implies-iff (i isnt 0) (r i) .1 (λ u. f (implies-iff (i isnt 0) (q i) .0 (s .1) u)))
+
+-- the lines below i fit, whatever box they are of
+pub record Standing (image : List ℕ) (k n i : ℕ) (seen : Kids) : Type 0 where
+  pub upto : i ≤ n
+  pub children : KidsOf seen (childIn image k i)
+  pub fits : (b : ℕ) → LinesAt image b k n → (j : ℕ) → j < i → T (treeFits (boxAt (modelOf image) b) j)
+
+module _ (image : List ℕ) (k n : ℕ) where
+  pub stand-start : Standing image k n 0 (record { low = 0; high = 0 })
+  stand-start = record { upto = zero-le; children = child-start image k; fits = λ b h j l. absurd (omega arith) }
+
+  pub stand-turn : (i : ℕ) (x : Line) (seen r : Kids) (t : Bool) → Standing image k n i seen → i < n → x ≡ lineOf image k i → TreeTold x i n seen seen t → not t ≡ false
+      → KidsOf r (putChildren (seen .low) (seen .high) x) → Standing image k n (i + 1) r
+  stand-turn i x seen r t p l q told z f = record {
+    upto = omega arith;
+    children = child-turn image k i seen r x (p .children) q f;
+    fits = λ b h j g. pick b h j g (ℕ-discrete i j);
+  }
+    where
+      pick : (b : ℕ) → LinesAt image b k n → (j : ℕ) → j < i + 1 → Dec (i ≡ j) → T (treeFits (boxAt (modelOf image) b) j)
+      pick b h j g (no e) = p .fits b h j (omega arith)
+      pick b h j g (yes e) =
+          let y = boxAt (modelOf image) b in
+          let before : ℕ → Bool = λ c. anyBelow i (λ j. hasChild (lineAt y j) c) in
+          let named : ℕ → Bool = λ c. anyBelow n (λ j. hasChild (lineAt y j) c) in
+          let kids = children-at image b k n i seen h (omega arith) (p .children) in
+          let more : T (before i) → T (named i) = λ u. let s = any-iff i (λ j. hasChild (lineAt y j) i) .0 u in
+          any-iff n (λ j. hasChild (lineAt y j) i) .1 (s .0, (let d = s .1 in omega arith), s .2) in
+          let held : T (treeOk x i n before before) = of-true (sym (told .tells before before (h .held .few) l kids kids) ∙ holds t z) in
+          subst (λ (j : ℕ). T (treeFits y j)) e
+          (subst T (tree-fits y x i n (line-count image b k n h) (q ∙ line-at image b k n h i l)) (tree-more x i n before before named more held))
+
+  pub stand-stop : StandsTold image k n false
+  stand-stop = record { tells = λ t. absurd t }
+
+  pub stand-end : (i : ℕ) (seen : Kids) → Standing image k n i seen → n ≤ i → StandsTold image k n true
+  stand-end i seen p l = record { tells = λ t b h. record { fits = λ j g. p .fits b h j (omega arith) } }
+
+  pub stand-held : (b : ℕ) (r : Bool) → StandsTold image k n r → r ≡ true → LinesAt image b k n → none ≡ boxMisfit 8 n (treeFit (modelOf image)) b
+  unfolding boxMisfit
+  stand-held b r told e h =
+      let fits = told .tells (of-true e) b h .fits in
+      sym (first-iff n (misfit 8 (treeFit (modelOf image)) b) .1 (λ i l. passed-iff (treeFit (modelOf image) b i) (refusal 8 b i) .1 (fits i l)))
 
 -- ---- 9: the reach of names in a box, and the names bound before
 
@@ -410,4 +473,4 @@ reach-end image b n i bound p l = along-end 9 n (reachFits (modelOf image)) b i 
 pub sites-room : (image : List ℕ) (b k n : ℕ) → SitesAt image b k n → 512 * (k + 1) ≤ length image
 sites-room image b k n h = h .there
 
-pub ruleset runs = (needs, line-there, line-held, sites-room, subject-start, subject-turn, subject-end, bound-start, bound-turn, bound-end, child-start, child-turn, child-end, put-yes, put-past, put-no, put-long, climb-long, hand-down, climb-start, climb-turn, climb-end, along-start, along-end, site-start, site-turn, site-stop, site-end, line-turn, line-stop, tree-start, tree-turn, tree-stop, tree-end, reach-start, reach-turn, reach-stop, reach-end)
+pub ruleset runs = (needs, line-there, line-held, sites-room, subject-start, subject-turn, subject-end, bound-start, bound-turn, bound-end, child-start, child-turn, child-end, put-yes, put-past, put-no, put-long, climb-long, hand-down, climb-start, climb-turn, climb-end, along-start, along-end, site-start, site-turn, site-stop, site-end, line-turn, line-stop, tree-start, tree-turn, tree-stop, tree-end, stand-start, stand-turn, stand-stop, stand-end, stand-held, reach-start, reach-turn, reach-stop, reach-end)

@@ -2,7 +2,7 @@
 use mathlib.Core.Path.{_≡_}
 use mathlib.Core.Bool.{Bool, true, false, not}
 use mathlib.Core.List.{List}
-use mathlib.Core.Option.{Option, none, some}
+use mathlib.Core.Option.{Option, some}
 use Prim.Native.Nat.{ℕ, _+_, _-_, _*_, _/_, _%_, _≤_, _<_}
 use lib.Dec.{T}
 use lib.ListN.{length}
@@ -182,3 +182,10 @@ exposeFit all exposed l =
 unfoldable pub lineOk : (ℕ → Bool) → (ℕ → Bool) → (ℕ → Bool) → (ℕ → Bool) → Line → Bool
 lineOk all restricted received exposed l =
     shapeFit l and namesFit all l and boundFit restricted received l and exposeFit all exposed l
+
+-- 8, of a line l as line i of n, over the children of the lines before it and those of all lines
+unfoldable pub treeOk : Line → ℕ → ℕ → (ℕ → Bool) → (ℕ → Bool) → Bool
+treeOk l i n before all =
+    (l .op isnt 0 implies (i below l .child1 and l .child1 below n and not (before (l .child1))))
+    and (l .op is 1 implies (i below l .child2 and l .child2 below n and not (before (l .child2))) and l .child1 isnt l .child2)
+    and (i isnt 0 implies all i)

@@ -5,16 +5,16 @@ use Prim.Native.Nat.{ℕ, _≤_, _<_}
 use mathlib.Core.List.{List}
 use lib.Dec.{T}
 use lib.ListN.{length, getD}
-use Rattle.definitions.specs.Bounded.{_and_, _is_, _isnt_, _below_, anyBelow}
-use Rattle.definitions.specs.Model.{Site, Line, Box, Model, siteAt, lineAt, boxAt, lineCount, isFree, hasChild, boundAbove, owner}
+use Rattle.definitions.specs.Bounded.{_and_, _is_, _isnt_, _below_}
+use Rattle.definitions.specs.Model.{Site, Line, Model, siteAt, lineAt, boxAt, isFree, boundAbove, owner}
 use Rattle.definitions.specs.Image.{modelOf}
-use Rattle.definitions.specs.ReadModel.{usedBefore, siteFits, lineFits, treeFits, boundBefore, reachFits}
+use Rattle.definitions.specs.ReadModel.{usedBefore, siteFits, lineFits, boundBefore, reachFits}
 use Rattle.model.specs.declared.Layout.{Layout}
 use Rattle.model.specs.declared.Owner.{Owner}
 use Rattle.model.specs.declared.fits.Kids.{Kids}
 use Rattle.model.specs.Records.{ownerIn}
 use Rattle.model.specs.Holds.{Holds}
-use Rattle.model.specs.Parts.{SetOf, KindsIn, LinesAt, TreesFit, lineIs, isPlain}
+use Rattle.model.specs.Parts.{SetOf, KindsIn, LinesAt, TreesFit, lineIs, isPlain, treeOk}
 
 -- k is the set of the lines below 128 that pass a test
 pub record KidsOf (k : Kids) (p : ℕ → Bool) : Type 0 where
@@ -30,13 +30,17 @@ pub record LineTold (l : Line) (a r c e : ℕ) (fits : Bool) : Type 0 where
 pub record ChildTold (i c n : ℕ) (seen : Kids) (r : Bool) : Type 0 where
   pub tells : (p : ℕ → Bool) → KidsOf seen p → n ≤ 124 → r ≡ (i below c and c below n and not (p c))
 
+-- whatever the children of the lines before and those of all lines are
 pub record TreeTold (l : Line) (i n : ℕ) (seen all : Kids) (r : Bool) : Type 0 where
-  pub tells : (x : Box) → n ≡ lineCount x → n ≤ 124 → i < n → KidsOf seen (λ c. anyBelow i (λ j. hasChild (lineAt x j) c))
-      → KidsOf all (λ c. anyBelow n (λ j. hasChild (lineAt x j) c)) → l ≡ lineAt x i → r ≡ treeFits x i
+  pub tells : (p q : ℕ → Bool) → n ≤ 124 → i < n → KidsOf seen p → KidsOf all q → r ≡ treeOk l i n p q
 
 pub record ReachTold (l : Line) (plain above bound : ℕ) (r : Bool) : Type 0 where
   pub tells : (m : Model) (b i : ℕ) → SetOf plain (isPlain (m .kinds)) → SetOf above (boundAbove (boxAt m b) i)
       → SetOf bound (boundBefore m b i) → l ≡ lineAt (boxAt m b) i → r ≡ reachFits m b i
+
+-- where the answer is yes, each of n lines fits its tree, whatever box they are of
+pub record StandsTold (image : List ℕ) (k n : ℕ) (r : Bool) : Type 0 where
+  pub tells : T r → (b : ℕ) → LinesAt image b k n → TreesFit image b n
 
 -- a list with v put at place c where t holds
 pub record PutAt (old : List ℕ) (c v : ℕ) (t : Bool) (new : List ℕ) : Type 0 where

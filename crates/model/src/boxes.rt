@@ -8,7 +8,7 @@ ghost use Rattle.definitions.specs.Image.{modelOf};
 ghost use Rattle.definitions.specs.ReadModel.{usedBefore, siteFits, boundBefore, reachFits};
 ghost use Rattle.model.specs.Records.{readOf};
 ghost use Rattle.model.specs.Parts.{SetOf, KindsIn, LinesThere, LinesAt, SitesAt, TreesFit, boxMisfit, lineFit, treeFit, subjectIn, boundIn, childIn, isPlain};
-ghost use Rattle.model.specs.Told.{KidsOf};
+ghost use Rattle.model.specs.Told.{KidsOf, StandsTold};
 use crate::Answer;
 use crate::answers::fault_if;
 use crate::fits::Kids;
@@ -106,8 +106,26 @@ pub fn box_lines(
     Answer::Held
 }
 
-// 8 in box b.
-pub fn box_tree(image: &[u8], b: usize, k: usize, n: usize) -> Answer
+// Each line fits its tree: one run, since the children of the lines before a line are enough to show it. It names no line that does not.
+fn tree_stands(image: &[u8], k: usize, n: usize) -> bool
+    requires { ⌜ LinesThere (now image) k n ⌝ }
+    ensures { λ r. ⌜ StandsTold (now (image .entry)) k n r ⌝ }
+{
+    let mut seen = Kids { low: 0, high: 0 };
+    let mut i = 0;
+    while i < n {
+        let l = crate::views::line(image, k, i);
+        if !crate::fits::tree_fits(l, i, n, seen, seen) {
+            return false;
+        }
+        seen = crate::fits::with_children(seen, l);
+        i += 1;
+    }
+    true
+}
+
+// The first line of box b that does not fit its tree.
+fn tree_misfit(image: &[u8], b: usize, k: usize, n: usize) -> Answer
     requires { ⌜ LinesAt (now image) b k n ⌝ }
     ensures { λ r. ⌜ readOf r ≡ boxMisfit 8 n (treeFit (modelOf (now (image .entry)))) b ⌝ }
 {
@@ -123,6 +141,17 @@ pub fn box_tree(image: &[u8], b: usize, k: usize, n: usize) -> Answer
         i += 1;
     }
     Answer::Held
+}
+
+// 8 in box b: two more runs only where a line does not fit.
+pub fn box_tree(image: &[u8], b: usize, k: usize, n: usize) -> Answer
+    requires { ⌜ LinesAt (now image) b k n ⌝ }
+    ensures { λ r. ⌜ readOf r ≡ boxMisfit 8 n (treeFit (modelOf (now (image .entry)))) b ⌝ }
+{
+    if tree_stands(image, k, n) {
+        return Answer::Held;
+    }
+    tree_misfit(image, b, k, n)
 }
 
 // 9 in box b; plain: the names that need no binding; bound: those that earlier boxes bind.

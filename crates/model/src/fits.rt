@@ -70,11 +70,14 @@ fn bound_fits(l: Line, restricted: u64, received: u64) -> bool
 fn expose_fits(l: Line, all: u64, exposed: u64) -> bool
     ensures { λ r. ⌜ r ≡ exposeFit (names.has all) (names.has exposed) (lineIn l) ⌝ }
 {
-    let shown = both(
-        sets::has(exposed, l.name1),
-        type_fits(all, l.name1, l.names),
-    );
-    both(implies(l.op == 6, shown), implies(l.op != 6, l.names == 0))
+    if l.op == 6 {
+        both(
+            sets::has(exposed, l.name1),
+            type_fits(all, l.name1, l.names),
+        )
+    } else {
+        l.names == 0
+    }
 }
 
 // all: the listed names; then those of each kind that a line binds.

@@ -45,13 +45,14 @@ pub fn site(image: &[u8], k: usize, i: usize) -> Site
     }
 }
 
-// Record i of a block of lines.
-fn line_record(image: &[u8], k: usize, i: usize) -> Line
-    requires { ⌜ (512 * (k + 1) ≤ length (now image)) × (i < 31) ⌝ }
-    ensures { λ r. ⌜ lineIn r ≡ lineRecord (blockOf (now (image .entry)) k) i ⌝ }
+// Line i of the box whose sites are block k. The lines follow, 31 to a block: a line is 16 bytes, and a block has 16 bytes besides.
+pub fn line(image: &[u8], k: usize, i: usize) -> Line
+    requires { ⌜ 512 * (k + 1 + i / 31 + 1) ≤ length (now image) ⌝ }
+    ensures { λ r. ⌜ lineIn r ≡ lineRecord (blockOf (now (image .entry)) (k + 1 + i / 31)) (i % 31) ⌝ }
 {
-    let w = blocks::inside::data_word(image, k, 2 * i);
-    let names = blocks::inside::data_word(image, k, 2 * i + 1);
+    let at = 512 * (k + 1) + (8 + 16 * (i + i / 31));
+    let w = blocks::words::word(image, at);
+    let names = blocks::words::word(image, at + 8);
     Line {
         op: (w % 256) as u8,
         name1: NameNo((w / 0x100 % 256) as u8),
@@ -61,14 +62,6 @@ fn line_record(image: &[u8], k: usize, i: usize) -> Line
         child2: (w / 0x1_0000_0000_0000 % 0x1_0000) as usize,
         names,
     }
-}
-
-// Line i of the box whose sites are block k: the lines follow, 31 to a block.
-pub fn line(image: &[u8], k: usize, i: usize) -> Line
-    requires { ⌜ 512 * (k + 1 + i / 31 + 1) ≤ length (now image) ⌝ }
-    ensures { λ r. ⌜ lineIn r ≡ lineRecord (blockOf (now (image .entry)) (k + 1 + i / 31)) (i % 31) ⌝ }
-{
-    line_record(image, k + 1 + i / 31, i % 31)
 }
 
 fn put(up: &mut [u64; 124], c: usize, v: u64, yes: bool)

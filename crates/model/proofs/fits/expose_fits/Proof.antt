@@ -12,26 +12,12 @@ type-fits-requires c κs = search records
 both-requires : tie.Need-both-requires
 both-requires c κs = search records
 
-implies-requires : tie.Need-implies-requires
-implies-requires c κs = search records
-
-implies-requires-2 : tie.Need-implies-requires-2
-implies-requires-2 c κs = search records
-
-both-requires-2 : tie.Need-both-requires-2
-both-requires-2 c κs = search records
-
 returns : tie.Need-returns
 returns c = search records
 
+returns-2 : tie.Need-returns-2
+returns-2 c = search records
+
 pub expose-fits-spec : {M : Type 1} → statement M
 expose-fits-spec =
-    tie.close
-    (tie.spec
-    has-requires
-    type-fits-requires
-    both-requires
-    implies-requires
-    implies-requires-2
-    both-requires-2
-    returns)
+    tie.close (tie.spec has-requires type-fits-requires both-requires returns returns-2)
