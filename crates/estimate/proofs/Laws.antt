@@ -1,72 +1,203 @@
--- Laws of an estimate's blocks: one word, one block, one block after another. Assumes nothing.
+-- Laws of an estimate's blocks: unions of words, one block, one block after another. Assumes nothing.
 use mathlib.Core.Path.{_≡_, refl, sym, ap, ap₂, _∙_}
-use mathlib.Core.Bool.{Bool, true, false, not}
+use mathlib.Core.Bool.{Bool, true, false}
 use mathlib.Core.List.{List}
+use mathlib.Core.Logic.{_↔_, _⊎_, inl, inr, ⊎-elim}
 use mathlib.Core.Option.{Option, none, some}
-use Prim.Native.Nat.{ℕ, _+_, _*_, _/_, _%_, _^_, _≤_, _<_}
-use native.Mathlib.Nat.{div-eq-of-lt, lt-of-lt-of-le}
+use Prim.Native.Nat.{ℕ, _+_, _*_, _/_, _%_, _^_, _≤_, _<_, min, zero-le}
+use native.Mathlib.Nat.{le-refl, div-one, div-eq-of-lt, lt-of-lt-of-le}
+use native.Mathlib.Numerals.{add-one}
 use native.Mathlib.Omega.{arith}
-use native.Mathlib.Decide.{ℕ-discrete}
 use borrow.Author.Needs.{needs}
-use lib.Dec.{T, eqb, leb}
+use lib.Dec.{T, eqb}
 use lib.Pow.{pow-mono}
 use lib.ListN.{length}
-use Rattle.definitions.specs.Bounded.{_and_, _or_, _is_, _isnt_, _below_, _upto_, faultIf, orElse, firstBelow}
+use Rattle.definitions.specs.Bounded.{_and_, _or_, _is_, _isnt_, _below_, _upto_, anyBelow, faultIf, orElse, firstBelow}
+use Rattle.definitions.specs.Sets.{has}
 use Rattle.definitions.specs.Words.{blockOf, countOf, dataWord}
 use Rattle.definitions.specs.Answer as paper
-use Rattle.definitions.specs.ReadEstimate.{noBitPast, setsFit, tableFault, readEstimate}
-use Rattle.definitions.proofs.Bounded.{is-iff, isnt-iff, below-iff, upto-iff, true-of, of-true, false-of, same-test}
+use Rattle.definitions.specs.ReadEstimate.{noBitPast, setsFit, isSet, tableFault}
+use Rattle.definitions.proofs.Bounded.{and-iff, or-iff, is-iff, isnt-iff, below-iff, upto-iff, any-iff, true-of, of-true, false-of, not-false, same-test, decide}
+use Rattle.definitions.proofs.ReadEstimate.{sets-iff}
+use Rattle.definitions.proofs.Sets.{has-none, past-iff}
 use Rattle.definitions.proofs.BlockFault.{checkFits, headingFits, inOrder, block-is}
-use Rattle.definitions.proofs.Loops.{fails, holds, Passed, passed-start, passed-turn, passed-stop, passed-end, else-stop, else-go, passing-start, passing-turn, passing-stop, passing-end}
+use Rattle.definitions.proofs.Loops.{fails, holds, Passed, passed-start, passed-turn, passed-stop, passed-end, else-stop, else-go}
 use Rattle.blocks.specs.declared.inside.Heading.{Heading}
 use Rattle.blocks.specs.Answers.{headingOf}
 use Rattle.estimate.specs.declared.Refusal.{Refusal}
 use Rattle.estimate.specs.declared.Answer.{Answer}
 use Rattle.estimate.specs.declared.Answer.the-variants.{Held, Refused}
-use Rattle.estimate.specs.Answers.{answerIn, isSet, wordFits}
+use Rattle.estimate.specs.Answers.{answerIn, lastSets, UnionOver}
 
--- ---- one word
+-- ---- the union of a range of words
 
-module _ (names asked i : ℕ) where
-  pub set-name : i < names → true ≡ isSet names asked i
-  unfolding _or_
-  set-name h = sym (ap (λ (b : Bool). b or (asked is 5 and 60 upto i)) (true-of (i below names) (below-iff i names .1 h)))
+-- the words from `from` to i are gathered, and they are all before `to`
+pub record Gathered (f : ℕ → ℕ) (from to i w : ℕ) : Type 0 where
+  pub start : from ≤ i
+  pub inside : (j : ℕ) → from ≤ j → j < i → j < to
+  pub so-far : UnionOver f from i w
 
-  past : names ≤ i → isSet names asked i ≡ (asked is 5 and 60 upto i)
-  unfolding _or_
-  past h =
-      ap (λ (b : Bool). b or (asked is 5 and 60 upto i)) (false-of (i below names) (λ t. let l = below-iff i names .0 t in absurd (omega arith)))
+module _ (f : ℕ → ℕ) (from to : ℕ) where
+  at : ℕ → ℕ → Bool
+  at m i = from upto i and has (f i) m
 
-  pub set-last : names ≤ i → asked ≡ 5 → leb 60 i ≡ isSet names asked i
-  unfolding _and_ _upto_
-  set-last h e = sym (past h ∙ ap (λ (b : Bool). b and 60 upto i) (true-of (asked is 5) (is-iff asked 5 .1 e)))
+  pub gathered-start : Gathered f from to from 0
+  unfolding at
+  gathered-start = record {
+    start = le-refl from;
+    inside = λ j a b. absurd (omega arith);
+    so-far = record { members = λ m. has-none m ∙ sym (false-of (anyBelow from (at m)) (λ t. none m (any-iff from (at m) .0 t))) };
+  }
+    where
+      none : (m : ℕ) → (i : ℕ) × (i < from) × T (at m i) → ⊥
+      none m x =
+          let l = x .1 in
+          let h = upto-iff from (x .0) .0 (and-iff (from upto x .0) (has (f (x .0)) m) .0 (x .2) .0) in
+          omega arith
 
-  pub set-none : names ≤ i → (asked ≡ 5 → ⊥) → false ≡ isSet names asked i
-  unfolding _and_
-  set-none h f = sym (past h ∙ ap (λ (b : Bool). b and 60 upto i) (false-of (asked is 5) (λ t. f (is-iff asked 5 .0 t))))
+  pub gathered-turn : (i w v u : ℕ) → Gathered f from to i w → i < to → u ≡ f i → ((m : ℕ) → has v m ≡ (has w m or has u m))
+      → Gathered f from to (i + 1) v
+  unfolding anyBelow _and_ at
+  gathered-turn i w v u g l e h = record {
+    start = omega (arith, g .start);
+    inside = λ j a b. omega arith;
+    so-far = record {
+      members = λ m.
+          h m ∙ ap₂ _or_ (g .so-far .members m) (ap (λ (x : ℕ). has x m) e
+          ∙ ap (λ (b : Bool). b and has (f i) m) (sym (true-of (from upto i) (upto-iff from i .1 (g .start)))))
+          ∙ ap (λ (n : ℕ). anyBelow n (at m)) (sym (add-one i));
+    };
+  }
 
-module _ (names : ℕ) (set : Bool) (w : ℕ) where
-  pub fits-set : set ≡ true → eqb (w / 2 ^ names) 0 ≡ wordFits names set w
-  unfolding wordFits noBitPast _is_
-  fits-set e = sym (ap (λ (b : Bool). elim b [ true ↦ eqb (w / 2 ^ names) 0 | false ↦ eqb w 0 ]) e)
+  pub gathered-end : (i w : ℕ) → Gathered f from to i w → to ≤ i → UnionOver f from to w
+  unfolding at
+  gathered-end i w g l = record { members = λ m. g .so-far .members m ∙ same-test (anyBelow i (at m)) (anyBelow to (at m)) (cut m) (more m) }
+    where
+      cut : (m : ℕ) → T (anyBelow i (at m)) → T (anyBelow to (at m))
+      cut m t =
+          let x = any-iff i (at m) .0 t in
+          let h = upto-iff from (x .0) .0 (and-iff (from upto x .0) (has (f (x .0)) m) .0 (x .2) .0) in
+          any-iff to (at m) .1 (x .0, g .inside (x .0) h (x .1), x .2)
 
-  pub fits-zero : set ≡ false → eqb w 0 ≡ wordFits names set w
-  unfolding wordFits noBitPast _is_
-  fits-zero e = sym (ap (λ (b : Bool). elim b [ true ↦ eqb (w / 2 ^ names) 0 | false ↦ eqb w 0 ]) e)
+      more : (m : ℕ) → T (anyBelow to (at m)) → T (anyBelow i (at m))
+      more m t = let x = any-iff to (at m) .0 t in let h = x .1 in any-iff i (at m) .1 (x .0, omega arith, x .2)
 
-module _ (names : ℕ) (w : ℕ) where
-  -- from 64 names on, no bit of a word is past them
-  pub fits-all : (set : Bool) → set ≡ true → 64 ≤ names → w < 2 ^ 64 → true ≡ wordFits names set w
-  unfolding wordFits noBitPast
-  fits-all set e l h =
-      sym (ap (λ (b : Bool). elim b [ true ↦ w / 2 ^ names is 0 | false ↦ w is 0 ]) e
-      ∙ true-of (w / 2 ^ names is 0) (is-iff (w / 2 ^ names) 0 .1 (div-eq-of-lt (lt-of-lt-of-le h (pow-mono l)))))
+  -- a union has no bit past n exactly when none of its words has
+  union-iff : (w : ℕ) → UnionOver f from to w → (n : ℕ) → (w / 2 ^ n ≡ 0) ↔ ((i : ℕ) → from ≤ i → i < to → f i / 2 ^ n ≡ 0)
+  unfolding at
+  union-iff w u n = (
+    λ e i a b. past-iff (f i) n .1 (λ m t. past-iff w n .0 e m (of-true (u .members m
+        ∙ true-of (anyBelow to (at m)) (any-iff to (at m) .1 (i, b, and-iff (from upto i) (has (f i) m) .1 (upto-iff from i .1 a, t)))))),
+    λ g. past-iff w n .1 (λ m t.
+        let x = any-iff to (at m) .0 (of-true (sym (u .members m) ∙ true-of (has w m) t)) in
+        let y = and-iff (from upto x .0) (has (f (x .0)) m) .0 (x .2) in
+        past-iff (f (x .0)) n .0 (g (x .0) (upto-iff from (x .0) .0 (y .0)) (x .1)) m (y .1)),
+  )
 
-pub word-is : (names asked i w : ℕ) (set r : Bool) (block : List ℕ) → set ≡ isSet names asked i → w ≡ dataWord block i
-    → r ≡ wordFits names set w → r ≡ wordFits names (isSet names asked i) (dataWord block i)
-word-is names asked i w set r block e f g = g ∙ ap₂ (wordFits names) e f
+pub ruleset unions = (needs, gathered-start, gathered-turn, gathered-end)
 
-pub ruleset words = (needs, set-name, set-last, set-none, fits-set, fits-zero, fits-all, word-is)
+-- ---- the words of a block
+
+pub past-shift : (names w : ℕ) → eqb (w / 2 ^ names) 0 ≡ noBitPast names w
+unfolding noBitPast _is_
+past-shift names w = refl
+
+-- from 64 names on, no bit of a word is past them
+pub past-all : (names w : ℕ) → 64 ≤ names → w < 2 ^ 64 → true ≡ noBitPast names w
+unfolding noBitPast
+past-all names w l h = sym (true-of (w / 2 ^ names is 0) (is-iff (w / 2 ^ names) 0 .1 (div-eq-of-lt (lt-of-lt-of-le h (pow-mono l)))))
+
+module _ (asked : ℕ) where
+  pub last-five : asked ≡ 5 → 60 ≡ lastSets asked
+  unfolding lastSets
+  last-five e = ap (λ (b : Bool). elim b as (λ _. ℕ) [ true ↦ 60 | false ↦ 62 ]) (sym (true-of (asked is 5) (is-iff asked 5 .1 e)))
+
+  pub last-other : (asked ≡ 5 → ⊥) → 62 ≡ lastSets asked
+  unfolding lastSets
+  last-other f = ap (λ (b : Bool). elim b as (λ _. ℕ) [ true ↦ 60 | false ↦ 62 ]) (sym (false-of (asked is 5) (λ t. f (is-iff asked 5 .0 t))))
+
+  pub last-most : (last : ℕ) → last ≡ lastSets asked → last ≤ 62
+  last-most last e = ⊎-elim (λ t. omega (arith, last-five (is-iff asked 5 .0 t))) (λ f. omega (arith, last-other (λ q. f (is-iff asked 5 .1 q)))) (decide (asked is 5))
+
+-- word i of a block is a set exactly where it is a name's or one of the last sets
+module _ (names asked named last : ℕ) (en : named ≡ min names 62) (el : last ≡ lastSets asked) (i : ℕ) (l : i < 62) where
+  set-low : i < named → T (isSet names asked i)
+  set-low h = or-iff (i below names) (asked is 5 and 60 upto i) .1 (inl (below-iff i names .1 (omega arith)))
+
+  set-high : last ≤ i → T (isSet names asked i)
+  set-high h =
+      or-iff (i below names) (asked is 5 and 60 upto i) .1
+      (inr (⊎-elim (λ t. and-iff (asked is 5) (60 upto i) .1 (t, upto-iff 60 i .1 (omega (arith, last-five asked (is-iff asked 5 .0 t)))))
+      (λ f. absurd (omega (arith, last-other asked (λ q. f (is-iff asked 5 .1 q))))) (decide (asked is 5))))
+
+  set-where : T (isSet names asked i) → (i < named) ⊎ (last ≤ i)
+  set-where t =
+      ⊎-elim (λ a. let h = below-iff i names .0 a in inl (omega arith))
+      (λ a.
+      let p = and-iff (asked is 5) (60 upto i) .0 a in
+      let h = upto-iff 60 i .0 (p .1) in
+      inr (omega (arith, last-five asked (is-iff asked 5 .0 (p .0)))))
+      (or-iff (i below names) (asked is 5 and 60 upto i) .0 t)
+
+  set-not : (T (isSet names asked i) → ⊥) → (named ≤ i) × (i < last)
+  set-not n =
+      let a : i < named → ⊥ = λ h. n (set-low h) in
+      let b : last ≤ i → ⊥ = λ h. n (set-high h) in
+      (omega arith, omega arith)
+
+  not-set : named ≤ i → i < last → T (isSet names asked i) → ⊥
+  not-set a b t = ⊎-elim (λ h. omega arith) (λ h. omega arith) (set-where t)
+
+module _ (names asked : ℕ) (block : List ℕ) (named last : ℕ) (en : named ≡ min names 62) (el : last ≡ lastSets asked) where
+  most : last ≤ 62
+  most = last-most asked last el
+
+  -- what a block that fits says of its words
+  module _ (t : T (setsFit names (isSet names asked) block)) (i : ℕ) (l : i < 62) where
+    fit-set : T (isSet names asked i) → dataWord block i / 2 ^ names ≡ 0
+    fit-set = sets-iff names (isSet names asked) block .0 t i l .0
+
+    fit-zero : named ≤ i → i < last → dataWord block i / 2 ^ 0 ≡ 0
+    fit-zero a b =
+        div-one (dataWord block i) ∙ sets-iff names (isSet names asked) block .0 t i l .1 (not-set names asked named last en el i l a b)
+
+  module _ (w : ℕ) (uw : UnionOver (dataWord block) named last w) where
+    pub stray-between : (w ≡ 0 → ⊥) → false ≡ setsFit names (isSet names asked) block
+    stray-between f =
+        sym (false-of (setsFit names (isSet names asked) block) (λ t. f (sym (div-one w)
+        ∙ union-iff (dataWord block) named last w uw 0 .1 (λ i a b. fit-zero t i (omega (arith, most)) a b))))
+
+    module _ (z : w ≡ 0) (v : ℕ) (uv : UnionOver (dataWord block) last 62 v) (b : Bool) (eb : b ≡ noBitPast names v) where
+      pub stray-last : b ≡ false → false ≡ setsFit names (isSet names asked) block
+      unfolding noBitPast
+      stray-last e =
+          sym (false-of (setsFit names (isSet names asked) block) (λ t. not-false (sym eb ∙ e) (is-iff (v / 2 ^ names) 0 .1
+          (union-iff (dataWord block) last 62 v uv names .1 (λ i a l. fit-set t i l (set-high names asked named last en el i l a))))))
+
+      pub stray-named : b ≡ true → (x : ℕ) → UnionOver (dataWord block) 0 named x → (r : Bool) → r ≡ noBitPast names x
+          → r ≡ setsFit names (isSet names asked) block
+      unfolding noBitPast
+      stray-named e x ux r er = er ∙ same-test (x / 2 ^ names is 0) (setsFit names (isSet names asked) block) into out
+        where
+          set : T (x / 2 ^ names is 0) → (i : ℕ) → i < 62 → (i < named) ⊎ (last ≤ i) → dataWord block i / 2 ^ names ≡ 0
+          set t i l =
+              ⊎-elim (λ h. union-iff (dataWord block) 0 named x ux names .0 (is-iff (x / 2 ^ names) 0 .0 t) i zero-le h)
+              (λ h. union-iff (dataWord block) last 62 v uv names .0 (is-iff (v / 2 ^ names) 0 .0 (of-true (sym eb ∙ e))) i h l)
+
+          clear : (i : ℕ) → (named ≤ i) × (i < last) → dataWord block i ≡ 0
+          clear i h = sym (div-one (dataWord block i)) ∙ union-iff (dataWord block) named last w uw 0 .0 (div-one w ∙ z) i (h .0) (h .1)
+
+          into : T (x / 2 ^ names is 0) → T (setsFit names (isSet names asked) block)
+          into t =
+              sets-iff names (isSet names asked) block .1
+              (λ i l. (λ s. set t i l (set-where names asked named last en el i l s), λ n. clear i (set-not names asked named last en el i l n)))
+
+          out : T (setsFit names (isSet names asked) block) → T (x / 2 ^ names is 0)
+          out t =
+              is-iff (x / 2 ^ names) 0 .1 (union-iff (dataWord block) 0 named x ux names .1
+              (λ i a h. let l : i < 62 = omega arith in fit-set t i l (set-low names asked named last en el i l h)))
+
+pub ruleset words = (needs, fails, holds, past-shift, past-all, last-five, last-other, last-most, stray-between, stray-last, stray-named)
 
 -- ---- a heading
 
@@ -148,7 +279,7 @@ module _ (image : List ℕ) (names k asked place : ℕ) (there : 512 * (k + 1) �
         unfolding inOrder
         table-held tz = sym (found true true true true (sym ec ∙ tc) (head ∙ tf) (equal (countOf B) 0 (counted ∙ zero)) (sym ez ∙ tz))
 
-pub ruleset tables = (needs, fails, holds, passing-start, passing-turn, passing-stop, passing-end, table-2, table-3, table-4, table-5, table-held)
+pub ruleset tables = (needs, fails, holds, table-2, table-3, table-4, table-5, table-held)
 
 -- ---- one block after another
 
