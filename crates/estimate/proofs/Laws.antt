@@ -1,6 +1,6 @@
 -- Laws of an estimate's blocks: unions of words, one block, one block after another. Assumes nothing.
 use mathlib.Core.Path.{_≡_, refl, sym, ap, ap₂, _∙_}
-use mathlib.Core.Bool.{Bool, true, false}
+use mathlib.Core.Bool.{Bool, true, false, _&&_}
 use mathlib.Core.List.{List}
 use mathlib.Core.Logic.{_↔_, _⊎_, inl, inr, ⊎-elim}
 use mathlib.Core.Option.{Option, none, some}
@@ -17,7 +17,7 @@ use Rattle.definitions.specs.Sets.{has}
 use Rattle.definitions.specs.Words.{blockOf, countOf, dataWord}
 use Rattle.definitions.specs.Answer as paper
 use Rattle.definitions.specs.ReadEstimate.{noBitPast, setsFit, isSet, tableFault}
-use Rattle.definitions.proofs.Bounded.{and-iff, or-iff, is-iff, isnt-iff, below-iff, upto-iff, any-iff, true-of, of-true, false-of, not-false, same-test, decide}
+use Rattle.definitions.proofs.Bounded.{tests, and-iff, or-iff, is-iff, isnt-iff, below-iff, upto-iff, any-iff, true-of, of-true, false-of, not-false, same-test, decide}
 use Rattle.definitions.proofs.ReadEstimate.{sets-iff}
 use Rattle.definitions.proofs.Sets.{has-none, past-iff}
 use Rattle.definitions.proofs.BlockFault.{checkFits, headingFits, inOrder, block-is}
@@ -27,9 +27,13 @@ use Rattle.blocks.specs.Answers.{headingOf}
 use Rattle.estimate.specs.declared.Refusal.{Refusal}
 use Rattle.estimate.specs.declared.Answer.{Answer}
 use Rattle.estimate.specs.declared.Answer.the-variants.{Held, Refused}
-use Rattle.estimate.specs.Answers.{answerIn, lastSets, UnionOver}
+use Rattle.estimate.specs.Answers.{answerIn, lastSets, wordsFit, UnionOver}
 
 -- ---- the union of a range of words
+
+range-iff : (n from to : ℕ) (f : ℕ → ℕ) → T (wordsFit n from to f) ↔ ((i : ℕ) → i < to → from ≤ i → f i / 2 ^ n ≡ 0)
+unfolding wordsFit noBitPast
+range-iff n from to f = (λ t. simp tests at t, λ g. simp tests g)
 
 -- the words from `from` to i are gathered, and they are all before `to`
 pub record Gathered (f : ℕ → ℕ) (from to i w : ℕ) : Type 0 where
@@ -83,18 +87,25 @@ module _ (f : ℕ → ℕ) (from to : ℕ) where
       more m t = let x = any-iff to (at m) .0 t in let h = x .1 in any-iff i (at m) .1 (x .0, omega arith, x .2)
 
   -- a union has no bit past n exactly when none of its words has
-  union-iff : (w : ℕ) → UnionOver f from to w → (n : ℕ) → (w / 2 ^ n ≡ 0) ↔ ((i : ℕ) → from ≤ i → i < to → f i / 2 ^ n ≡ 0)
-  unfolding at
-  union-iff w u n = (
-    λ e i a b. past-iff (f i) n .1 (λ m t. past-iff w n .0 e m (of-true (u .members m
-        ∙ true-of (anyBelow to (at m)) (any-iff to (at m) .1 (i, b, and-iff (from upto i) (has (f i) m) .1 (upto-iff from i .1 a, t)))))),
-    λ g. past-iff w n .1 (λ m t.
-        let x = any-iff to (at m) .0 (of-true (sym (u .members m) ∙ true-of (has w m) t)) in
-        let y = and-iff (from upto x .0) (has (f (x .0)) m) .0 (x .2) in
-        past-iff (f (x .0)) n .0 (g (x .0) (upto-iff from (x .0) .0 (y .0)) (x .1)) m (y .1)),
-  )
+  pub union-fits : (n w : ℕ) (r : Bool) → UnionOver f from to w → r ≡ noBitPast n w → r ≡ wordsFit n from to f
+  unfolding noBitPast at
+  union-fits n w r u e =
+      e ∙ same-test (w / 2 ^ n is 0) (wordsFit n from to f) (λ t. range-iff n from to f .1 (each (is-iff (w / 2 ^ n) 0 .0 t)))
+      (λ t. is-iff (w / 2 ^ n) 0 .1 (all (range-iff n from to f .0 t)))
+    where
+      each : w / 2 ^ n ≡ 0 → (i : ℕ) → i < to → from ≤ i → f i / 2 ^ n ≡ 0
+      each z i b a =
+          past-iff (f i) n .1 (λ m t. past-iff w n .0 z m (of-true (u .members m
+          ∙ true-of (anyBelow to (at m)) (any-iff to (at m) .1 (i, b, and-iff (from upto i) (has (f i) m) .1 (upto-iff from i .1 a, t))))))
 
-pub ruleset unions = (needs, gathered-start, gathered-turn, gathered-end)
+      all : ((i : ℕ) → i < to → from ≤ i → f i / 2 ^ n ≡ 0) → w / 2 ^ n ≡ 0
+      all g =
+          past-iff w n .1 (λ m t.
+          let x = any-iff to (at m) .0 (of-true (sym (u .members m) ∙ true-of (has w m) t)) in
+          let y = and-iff (from upto x .0) (has (f (x .0)) m) .0 (x .2) in
+          past-iff (f (x .0)) n .0 (g (x .0) (x .1) (upto-iff from (x .0) .0 (y .0))) m (y .1))
+
+pub ruleset unions = (needs, gathered-start, gathered-turn, gathered-end, union-fits)
 
 -- ---- the words of a block
 
@@ -116,8 +127,11 @@ module _ (asked : ℕ) where
   unfolding lastSets
   last-other f = ap (λ (b : Bool). elim b as (λ _. ℕ) [ true ↦ 60 | false ↦ 62 ]) (sym (false-of (asked is 5) (λ t. f (is-iff asked 5 .0 t))))
 
+  last-case : ((asked ≡ 5) × (60 ≡ lastSets asked)) ⊎ (62 ≡ lastSets asked)
+  last-case = ⊎-elim (λ t. let e = is-iff asked 5 .0 t in inl (e, last-five e)) (λ f. inr (last-other (λ e. f (is-iff asked 5 .1 e)))) (decide (asked is 5))
+
   pub last-most : (last : ℕ) → last ≡ lastSets asked → last ≤ 62
-  last-most last e = ⊎-elim (λ t. omega (arith, last-five (is-iff asked 5 .0 t))) (λ f. omega (arith, last-other (λ q. f (is-iff asked 5 .1 q)))) (decide (asked is 5))
+  last-most last e = ⊎-elim (λ p. omega (arith, p .1)) (λ q. omega arith) last-case
 
 -- word i of a block is a set exactly where it is a name's or one of the last sets
 module _ (names asked named last : ℕ) (en : named ≡ min names 62) (el : last ≡ lastSets asked) (i : ℕ) (l : i < 62) where
@@ -127,16 +141,12 @@ module _ (names asked named last : ℕ) (en : named ≡ min names 62) (el : last
   set-high : last ≤ i → T (isSet names asked i)
   set-high h =
       or-iff (i below names) (asked is 5 and 60 upto i) .1
-      (inr (⊎-elim (λ t. and-iff (asked is 5) (60 upto i) .1 (t, upto-iff 60 i .1 (omega (arith, last-five asked (is-iff asked 5 .0 t)))))
-      (λ f. absurd (omega (arith, last-other asked (λ q. f (is-iff asked 5 .1 q))))) (decide (asked is 5))))
+      (inr (⊎-elim (λ p. simp tests (p .0, omega (arith, p .1))) (λ q. absurd (omega arith)) (last-case asked)))
 
   set-where : T (isSet names asked i) → (i < named) ⊎ (last ≤ i)
   set-where t =
       ⊎-elim (λ a. let h = below-iff i names .0 a in inl (omega arith))
-      (λ a.
-      let p = and-iff (asked is 5) (60 upto i) .0 a in
-      let h = upto-iff 60 i .0 (p .1) in
-      inr (omega (arith, last-five asked (is-iff asked 5 .0 (p .0)))))
+      (λ a. let p = simp tests at a in inr (omega (arith, p .1, last-five asked (p .0))))
       (or-iff (i below names) (asked is 5 and 60 upto i) .0 t)
 
   set-not : (T (isSet names asked i) → ⊥) → (named ≤ i) × (i < last)
@@ -148,56 +158,46 @@ module _ (names asked named last : ℕ) (en : named ≡ min names 62) (el : last
   not-set : named ≤ i → i < last → T (isSet names asked i) → ⊥
   not-set a b t = ⊎-elim (λ h. omega arith) (λ h. omega arith) (set-where t)
 
-module _ (names asked : ℕ) (block : List ℕ) (named last : ℕ) (en : named ≡ min names 62) (el : last ≡ lastSets asked) where
-  most : last ≤ 62
-  most = last-most asked last el
+-- the names' words, the words between and the last sets are all the words
+module _ (names asked : ℕ) (block : List ℕ) (named last : ℕ) (a b c : Bool) (ea : a ≡ wordsFit names 0 named (dataWord block))
+    (eb : b ≡ wordsFit 0 named last (dataWord block)) (ec : c ≡ wordsFit names last 62 (dataWord block)) (en : named ≡ min names 62)
+    (el : last ≡ lastSets asked) where
+  ranges-fit : T a → T b → T c → T (setsFit names (isSet names asked) block)
+  ranges-fit ta tb tc =
+      sets-iff names (isSet names asked) block .1
+      (λ i l. (λ s. set i l (set-where names asked named last en el i l s), λ n. clear i (set-not names asked named last en el i l n)))
+    where
+      set : (i : ℕ) → i < 62 → (i < named) ⊎ (last ≤ i) → dataWord block i / 2 ^ names ≡ 0
+      set i l =
+          ⊎-elim (λ h. range-iff names 0 named (dataWord block) .0 (of-true (sym ea ∙ true-of a ta)) i h zero-le)
+          (λ h. range-iff names last 62 (dataWord block) .0 (of-true (sym ec ∙ true-of c tc)) i l h)
 
-  -- what a block that fits says of its words
-  module _ (t : T (setsFit names (isSet names asked) block)) (i : ℕ) (l : i < 62) where
-    fit-set : T (isSet names asked i) → dataWord block i / 2 ^ names ≡ 0
-    fit-set = sets-iff names (isSet names asked) block .0 t i l .0
+      clear : (i : ℕ) → (named ≤ i) × (i < last) → dataWord block i ≡ 0
+      clear i h =
+          sym (div-one (dataWord block i)) ∙ range-iff 0 named last (dataWord block) .0 (of-true (sym eb ∙ true-of b tb)) i (h .1) (h .0)
 
-    fit-zero : named ≤ i → i < last → dataWord block i / 2 ^ 0 ≡ 0
-    fit-zero a b =
-        div-one (dataWord block i) ∙ sets-iff names (isSet names asked) block .0 t i l .1 (not-set names asked named last en el i l a b)
+  fit-ranges : T (setsFit names (isSet names asked) block) → T a × T b × T c
+  fit-ranges t = (
+    of-true (ea ∙ true-of (wordsFit names 0 named (dataWord block)) (range-iff names 0 named (dataWord block) .1
+        (λ i h _. let l : i < 62 = omega arith in w i l .0 (set-low names asked named last en el i l h)))),
+    of-true (eb ∙ true-of (wordsFit 0 named last (dataWord block)) (range-iff 0 named last (dataWord block) .1
+        (λ i h k. let l : i < 62 = omega (arith, last-most asked last el) in
+        div-one (dataWord block i) ∙ w i l .1 (not-set names asked named last en el i l k h)))),
+    of-true (ec ∙ true-of (wordsFit names last 62 (dataWord block)) (range-iff names last 62 (dataWord block) .1
+        (λ i l h. w i l .0 (set-high names asked named last en el i l h)))),
+  )
+    where
+      w : (i : ℕ) → i < 62 → (T (isSet names asked i) → dataWord block i / 2 ^ names ≡ 0) × ((T (isSet names asked i) → ⊥) → dataWord block i ≡ 0)
+      w = sets-iff names (isSet names asked) block .0 t
 
-  module _ (w : ℕ) (uw : UnionOver (dataWord block) named last w) where
-    pub stray-between : (w ≡ 0 → ⊥) → false ≡ setsFit names (isSet names asked) block
-    stray-between f =
-        sym (false-of (setsFit names (isSet names asked) block) (λ t. f (sym (div-one w)
-        ∙ union-iff (dataWord block) named last w uw 0 .1 (λ i a b. fit-zero t i (omega (arith, most)) a b))))
+  pub three-ranges : ((a && b) && c) ≡ setsFit names (isSet names asked) block
+  unfolding _and_
+  three-ranges =
+      same-test (a and b and c) (setsFit names (isSet names asked) block)
+      (λ t. let p = simp tests at t in ranges-fit (p .0 .0) (p .0 .1) (p .1))
+      (λ t. let p = fit-ranges t in simp tests ((p .0, p .1), p .2))
 
-    module _ (z : w ≡ 0) (v : ℕ) (uv : UnionOver (dataWord block) last 62 v) (b : Bool) (eb : b ≡ noBitPast names v) where
-      pub stray-last : b ≡ false → false ≡ setsFit names (isSet names asked) block
-      unfolding noBitPast
-      stray-last e =
-          sym (false-of (setsFit names (isSet names asked) block) (λ t. not-false (sym eb ∙ e) (is-iff (v / 2 ^ names) 0 .1
-          (union-iff (dataWord block) last 62 v uv names .1 (λ i a l. fit-set t i l (set-high names asked named last en el i l a))))))
-
-      pub stray-named : b ≡ true → (x : ℕ) → UnionOver (dataWord block) 0 named x → (r : Bool) → r ≡ noBitPast names x
-          → r ≡ setsFit names (isSet names asked) block
-      unfolding noBitPast
-      stray-named e x ux r er = er ∙ same-test (x / 2 ^ names is 0) (setsFit names (isSet names asked) block) into out
-        where
-          set : T (x / 2 ^ names is 0) → (i : ℕ) → i < 62 → (i < named) ⊎ (last ≤ i) → dataWord block i / 2 ^ names ≡ 0
-          set t i l =
-              ⊎-elim (λ h. union-iff (dataWord block) 0 named x ux names .0 (is-iff (x / 2 ^ names) 0 .0 t) i zero-le h)
-              (λ h. union-iff (dataWord block) last 62 v uv names .0 (is-iff (v / 2 ^ names) 0 .0 (of-true (sym eb ∙ e))) i h l)
-
-          clear : (i : ℕ) → (named ≤ i) × (i < last) → dataWord block i ≡ 0
-          clear i h = sym (div-one (dataWord block i)) ∙ union-iff (dataWord block) named last w uw 0 .0 (div-one w ∙ z) i (h .0) (h .1)
-
-          into : T (x / 2 ^ names is 0) → T (setsFit names (isSet names asked) block)
-          into t =
-              sets-iff names (isSet names asked) block .1
-              (λ i l. (λ s. set t i l (set-where names asked named last en el i l s), λ n. clear i (set-not names asked named last en el i l n)))
-
-          out : T (setsFit names (isSet names asked) block) → T (x / 2 ^ names is 0)
-          out t =
-              is-iff (x / 2 ^ names) 0 .1 (union-iff (dataWord block) 0 named x ux names .1
-              (λ i a h. let l : i < 62 = omega arith in fit-set t i l (set-low names asked named last en el i l h)))
-
-pub ruleset words = (needs, fails, holds, past-shift, past-all, last-five, last-other, last-most, stray-between, stray-last, stray-named)
+pub ruleset words = (needs, past-shift, past-all, last-five, last-other, last-most, three-ranges)
 
 -- ---- a heading
 

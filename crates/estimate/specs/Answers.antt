@@ -1,14 +1,14 @@
 -- What the code's answer says, and the union of a block's words. Assumes nothing.
 use mathlib.Core.Path.{_≡_}
-use mathlib.Core.Bool.{true, false}
+use mathlib.Core.Bool.{Bool, true, false}
 use mathlib.Core.List.{List}
 use mathlib.Core.Option.{Option, none, some}
 use Prim.Native.Nat.{ℕ}
-use Rattle.definitions.specs.Bounded.{_and_, _is_, _upto_, anyBelow, orElse}
+use Rattle.definitions.specs.Bounded.{_and_, _implies_, _is_, _upto_, allBelow, anyBelow, orElse}
 use Rattle.definitions.specs.Sets.{has}
 use Rattle.definitions.specs.Answer as paper
 use Rattle.definitions.specs.Estimate.{epsBlock, kapBlock}
-use Rattle.definitions.specs.ReadEstimate.{tableFault}
+use Rattle.definitions.specs.ReadEstimate.{noBitPast, tableFault}
 use Rattle.estimate.specs.declared.Answer.{Answer}
 use Rattle.estimate.specs.declared.Answer.the-variants.{Held, Refused}
 
@@ -20,6 +20,10 @@ answerIn (Refused r) = some (paper.refusal (r .number) (r .block) 0)
 -- where the two last sets of kind 5 begin; other kinds have no sets past the names
 unfoldable pub lastSets : ℕ → ℕ
 lastSets asked = elim (asked is 5) [ true ↦ 60 | false ↦ 62 ]
+
+-- f i has no bit past n, for i from one number up to another
+unfoldable pub wordsFit : ℕ → ℕ → ℕ → (ℕ → ℕ) → Bool
+wordsFit n from to f = allBelow to (λ i. from upto i implies noBitPast n (f i))
 
 -- w is the union of the sets f i for i from one number up to another
 pub record UnionOver (f : ℕ → ℕ) (from to w : ℕ) : Type 0 where

@@ -5,18 +5,18 @@ ghost use lib.ListN.{length};
 ghost use Rattle.definitions.specs.Bounded.{_and_, _is_, firstBelow};
 ghost use Rattle.definitions.specs.Words.{blockOf, dataWord};
 ghost use Rattle.definitions.specs.ReadEstimate.{noBitPast, setsFit, isSet, tableFault};
-ghost use Rattle.estimate.specs.Answers.{answerIn, lastSets, UnionOver, twoFault};
+ghost use Rattle.estimate.specs.Answers.{answerIn, lastSets, wordsFit, UnionOver, twoFault};
 use crate::Answer;
 use crate::Refusal;
 
-// The words that names have: one each, and a block holds 62.
+// The words that the names have: one each, at most a block's 62.
 fn name_words(names: usize) -> usize
     ensures { λ r. ⌜ r ≡ min names 62 ⌝ }
 {
     if names < 62 { names } else { 62 }
 }
 
-// Where the two last sets of kind 5 begin. Other kinds have none.
+// Where the last sets begin: kind 5 has two, and other kinds none.
 fn last_sets(asked: usize) -> usize
     ensures { λ r. ⌜ r ≡ lastSets asked ⌝ }
 {
@@ -43,20 +43,24 @@ fn no_bit_past(names: usize, w: u64) -> bool
     if names < 64 { w >> names == 0 } else { true }
 }
 
-// Each word before the last sets is zero or a name's, and no set has a bit past the names: tested on unions, without a branch for each word.
+// The words of block k from one number up to another have no bit past n: tested once, on their union.
+fn words_fit(image: &[u8], k: usize, from: usize, to: usize, n: usize) -> bool
+    requires { ⌜ (512 * (k + 1) ≤ length (now image)) × (to ≤ 62) ⌝ }
+    ensures { λ r. ⌜ r ≡ wordsFit n from to (dataWord (blockOf (now (image .entry)) k)) ⌝ }
+{
+    no_bit_past(n, words_union(image, k, from, to))
+}
+
+// The names' sets, the words between, which are zero, and the last sets.
 fn sets_fit(image: &[u8], names: usize, k: usize, asked: usize) -> bool
     requires { ⌜ 512 * (k + 1) ≤ length (now image) ⌝ }
     ensures { λ r. ⌜ r ≡ setsFit names (isSet names asked) (blockOf (now (image .entry)) k) ⌝ }
 {
     let named = name_words(names);
     let last = last_sets(asked);
-    if words_union(image, k, named, last) != 0 {
-        return false;
-    }
-    if !no_bit_past(names, words_union(image, k, last, 62)) {
-        return false;
-    }
-    no_bit_past(names, words_union(image, k, 0, named))
+    words_fit(image, k, 0, named, names)
+        & words_fit(image, k, named, last, 0)
+        & words_fit(image, k, last, 62, names)
 }
 
 fn heading_fits(h: blocks::inside::Heading, k: usize, asked: usize, place: usize) -> bool
