@@ -1,5 +1,5 @@
 -- `estimate::tables::last_sets` meets its contract: kind 5 has two sets in its last words. Assumes nothing.
-use Rattle.estimate.proofs.Laws.{words}
+use Rattle.estimate.proofs.Ranges.{words}
 use Rattle.estimate.proofs.tables.last_sets.Statement.{statement}
 use Rattle.estimate.proofs.tables.last_sets.Tie as tie
 

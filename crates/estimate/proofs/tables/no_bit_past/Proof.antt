@@ -1,5 +1,5 @@
 -- `estimate::tables::no_bit_past` meets its contract: the bits past the names are the word shifted down. Assumes nothing.
-use Rattle.estimate.proofs.Laws.{words}
+use Rattle.estimate.proofs.Ranges.{words}
 use Rattle.estimate.proofs.tables.no_bit_past.Statement.{statement}
 use Rattle.estimate.proofs.tables.no_bit_past.Tie as tie
 

@@ -1,5 +1,5 @@
 -- `estimate::tables::sets_fit` meets its contract: three ranges are all the words. Assumes nothing.
-use Rattle.estimate.proofs.Laws.{words}
+use Rattle.estimate.proofs.Ranges.{words}
 use Rattle.estimate.proofs.tables.sets_fit.Statement.{statement}
 use Rattle.estimate.proofs.tables.sets_fit.Tie as tie
 

@@ -1,5 +1,5 @@
 -- `estimate::tables::words_fit` meets its contract: a union stands for its words. Assumes nothing.
-use Rattle.estimate.proofs.Laws.{unions}
+use Rattle.estimate.proofs.Ranges.{unions}
 use Rattle.estimate.proofs.tables.words_fit.Statement.{statement}
 use Rattle.estimate.proofs.tables.words_fit.Tie as tie
 

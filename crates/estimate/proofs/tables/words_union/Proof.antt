@@ -1,7 +1,7 @@
 -- `estimate::tables::words_union` meets its contract: the words passed are gathered. Assumes nothing.
 use Prim.Native.Nat.{_-_}
 use Rattle.definitions.specs.Words.{blockOf, dataWord}
-use Rattle.estimate.proofs.Laws.{Gathered, unions}
+use Rattle.estimate.proofs.Ranges.{Gathered, unions}
 use Rattle.estimate.proofs.tables.words_union.Statement.{statement}
 use Rattle.estimate.proofs.tables.words_union.Tie as tie
 
