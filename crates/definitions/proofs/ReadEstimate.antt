@@ -2,28 +2,22 @@
 -- names. Assumes nothing.
 use mathlib.Core.Path.{_≡_, ap, _∙_}
 use mathlib.Core.Logic.{_↔_, ⊎-elim}
-use mathlib.Core.Bool.{Bool, true, false}
+use mathlib.Core.Bool.{Bool}
 use mathlib.Core.List.{List}
-use mathlib.Core.Option.{Option, none}
+use mathlib.Core.Option.{none}
 use Prim.Native.Nat.{ℕ, _+_, _*_, _/_, _^_, _<_}
-use native.Mathlib.Nat.{div-lt-iff-lt-mul}
 use native.Mathlib.Omega.{arith}
 use lib.Dec.{T}
 use lib.ListN.{length}
-use lib.Pow.{pow-pos}
-use Rattle.definitions.specs.Bounded.{_or_, _and_, _is_, _below_, _upto_, allBelow}
+use Rattle.definitions.specs.Bounded.{_is_}
 use Rattle.definitions.specs.Sets.{has}
 use Rattle.definitions.specs.Words.{blockOf, countOf, dataWord}
 use Rattle.definitions.specs.Estimate.{epsBlock, kapBlock, estimateOf}
-use Rattle.definitions.specs.ReadEstimate.{noBitPast, setsFit, tableFault, readEstimate}
+use Rattle.definitions.specs.ReadEstimate.{noBitPast, setsFit, isSet, tableFault, readEstimate}
 use Rattle.definitions.proofs.Bounded.{tests, choice-iff, decide, not-false}
-use Rattle.definitions.proofs.Sets.{has-none, has-below}
+use Rattle.definitions.proofs.Sets.{has-none, past-iff}
 use Rattle.definitions.proofs.Faults.{faults}
 use Rattle.definitions.proofs.ReadModel.{Headed, block-iff}
-
--- word i of a block of that kind is a set
-abbrev pub isSet : ℕ → ℕ → ℕ → Bool
-isSet names asked i = i below names or (asked is 5 and 60 upto i)
 
 -- block k, of a kind and for a box: its heading is right, its record count 0, its sets within the names, and all else zero
 pub record TableFits (image : List ℕ) (names k asked box : ℕ) : Type 0 where
@@ -74,12 +68,9 @@ read-estimate-iff names boxes image = (
 
 table-names : (image : List ℕ) (names k asked box : ℕ) → TableFits image names k asked box
     → (i : ℕ) → i < 62 → (a : ℕ) → T (has (dataWord (blockOf image k) i) a) → a < names
-table-names image names k asked box f i h a t = ⊎-elim (λ s. low (f .set i h s)) (λ s. absurd (not-false (ap (λ (w : ℕ). has w a) (f .clear i h s) ∙ has-none a) t)) (decide (isSet names asked i))
-  where
-    low : dataWord (blockOf image k) i / 2 ^ names ≡ 0 → a < names
-    low e =
-        let l : dataWord (blockOf image k) i < 1 * 2 ^ names = div-lt-iff-lt-mul (pow-pos names) .0 (omega arith) in
-        has-below names (dataWord (blockOf image k) i) a (omega arith) t
+table-names image names k asked box f i h a t =
+    ⊎-elim (λ s. past-iff (dataWord (blockOf image k) i) names .0 (f .set i h s) a t)
+    (λ s. absurd (not-false (ap (λ (w : ℕ). has w a) (f .clear i h s) ∙ has-none a) t)) (decide (isSet names asked i))
 
 pub record EstimateFits (names boxes : ℕ) (image : List ℕ) : Type 0 where
   pub size : length image ≡ 512 * (1 + 2 * boxes)

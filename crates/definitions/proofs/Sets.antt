@@ -2,10 +2,10 @@
 use mathlib.Core.Path.{_≡_, refl, sym, ap, ap₂, _∙_, subst}
 use mathlib.Core.Bool.{Bool, true, false, not}
 use mathlib.Core.List.{List, [], _∷_, _++_, append-nil}
-use mathlib.Core.Logic.{_↔_, _⊎_, inl, inr}
+use mathlib.Core.Logic.{_↔_, _⊎_, inl, inr, ⊎-elim}
 use mathlib.Core.Option.{Option, none, some}
 use Prim.Native.Nat.{ℕ, zero, suc, _+_, _-_, _*_, _/_, _%_, _^_, _≤_, _<_, min, max}
-use native.Mathlib.Nat.{le-refl, div-mul-le-self, mul-one, add-assoc, le-trans, le-add-right, le-of-suc-le-suc, not-suc-le-zero, zero-lt-suc, lt-trans, lt-of-le-of-lt, min-le-left, mod-lt, mod-eq-of-lt, div-one, zero-div, one-mul, pow-suc}
+use native.Mathlib.Nat.{le-refl, div-mul-le-self, mul-one, add-assoc, le-trans, le-add-right, le-of-suc-le-suc, not-suc-le-zero, zero-lt-suc, lt-trans, lt-of-le-of-lt, min-le-left, mod-lt, mod-eq-of-lt, div-one, zero-div, one-mul, pow-suc, eq-zero-or-pos, div-lt-iff-lt-mul}
 use native.Mathlib.Numerals.{one-add, add-one}
 use native.Mathlib.Omega.{arith}
 use native.Mathlib.Decide.{decLt, le-ind}
@@ -198,6 +198,26 @@ low-set (suc k) x p h = go (low-set k (x / 2)) (x % 2) refl
         (omega (arith, ih .0), has-suc x (trailingZeros k (x / 2)) ∙ ih .1)
     go rest (suc zero) e = (zero-lt-suc k, has-zero x ∙ ap (λ (d : ℕ). eqb d 1) e)
     go rest (suc (suc r)) e = absurd (omega (arith, mod-lt x two-pos))
+
+-- ---- no digit past n
+
+below-power : (n : ℕ) → n < 2 ^ n
+below-power zero = lit< tt
+below-power (suc n) = let e : 2 ^ suc n ≡ 2 ^ n * 2 = pow-suc 2 n in omega (arith, below-power n)
+
+-- a number has no digit past n exactly when each of its members is below n
+pub past-iff : (s n : ℕ) → (s / 2 ^ n ≡ 0) ↔ ((m : ℕ) → T (has s m) → m < n)
+past-iff s n = (
+  λ e m t. let l : s < 1 * 2 ^ n = div-lt-iff-lt-mul (pow-pos n) .0 (omega arith) in has-below n s m (omega arith) t,
+  λ f. ⊎-elim (λ e. e) (λ p. absurd (high f p)) (eq-zero-or-pos (s / 2 ^ n)),
+)
+  where
+    high : ((m : ℕ) → T (has s m) → m < n) → 0 < s / 2 ^ n → ⊥
+    high f p =
+        let v = s / 2 ^ n in
+        let d = trailingZeros v v in
+        let l = f (n + d) (of-true (sym (has-shr s n d) ∙ low-set v v p (below-power v) .1)) in
+        omega arith
 
 -- ---- tests over the members of a set
 

@@ -17,13 +17,17 @@ noBitPast names s = s / 2 ^ names is 0
 
 -- word i is a set of names where the block has a set there, and zero elsewhere
 unfoldable pub setsFit : ℕ → (ℕ → Bool) → List ℕ → Bool
-setsFit names isSet block =
-    allBelow 62 (λ i. elim (isSet i) [ true ↦ noBitPast names (dataWord block i) | false ↦ dataWord block i is 0 ])
+setsFit names set block =
+    allBelow 62 (λ i. elim (set i) [ true ↦ noBitPast names (dataWord block i) | false ↦ dataWord block i is 0 ])
 
--- a block of kind 4, 5 or 6 has a set for each name; kind 5 has two more, in words 60 and 61
+-- word i is a set: a block of kind 4, 5 or 6 has one for each name, and kind 5 two more, in words 60 and 61
+abbrev pub isSet : ℕ → ℕ → ℕ → Bool
+isSet names asked i = i below names or (asked is 5 and 60 upto i)
+
+-- block k of an estimate: record count 0, and sets where the kind has them
 unfoldable pub tableFault : List ℕ → ℕ → ℕ → ℕ → ℕ → Option Refusal
 tableFault image names k asked box =
-    blockFault image k asked box (λ block. countOf block is 0) (setsFit names (λ i. i below names or (asked is 5 and 60 upto i)))
+    blockFault image k asked box (λ block. countOf block is 0) (setsFit names (isSet names asked))
 
 unfoldable pub readEstimate : ℕ → ℕ → List ℕ → Option Refusal
 readEstimate names boxes image =

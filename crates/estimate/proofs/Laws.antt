@@ -1,72 +1,26 @@
--- Laws of an estimate's blocks: one word, one block, one block after another. Assumes nothing.
+-- Laws of an estimate's blocks: a heading, one block, one block after another. Assumes nothing.
 use mathlib.Core.Path.{_≡_, refl, sym, ap, ap₂, _∙_}
-use mathlib.Core.Bool.{Bool, true, false, not}
+use mathlib.Core.Bool.{Bool, true, false}
 use mathlib.Core.List.{List}
 use mathlib.Core.Option.{Option, none, some}
-use Prim.Native.Nat.{ℕ, _+_, _*_, _/_, _%_, _^_, _≤_, _<_}
-use native.Mathlib.Nat.{div-eq-of-lt, lt-of-lt-of-le}
+use Prim.Native.Nat.{ℕ, _+_, _*_, _/_, _%_, _≤_, _<_}
 use native.Mathlib.Omega.{arith}
-use native.Mathlib.Decide.{ℕ-discrete}
 use borrow.Author.Needs.{needs}
-use lib.Dec.{T, eqb, leb}
-use lib.Pow.{pow-mono}
+use lib.Dec.{eqb}
 use lib.ListN.{length}
-use Rattle.definitions.specs.Bounded.{_and_, _or_, _is_, _isnt_, _below_, _upto_, faultIf, orElse, firstBelow}
-use Rattle.definitions.specs.Words.{blockOf, countOf, dataWord}
+use Rattle.definitions.specs.Bounded.{_and_, _is_, _isnt_, faultIf, orElse, firstBelow}
+use Rattle.definitions.specs.Words.{blockOf, countOf}
 use Rattle.definitions.specs.Answer as paper
-use Rattle.definitions.specs.ReadEstimate.{noBitPast, setsFit, tableFault, readEstimate}
-use Rattle.definitions.proofs.Bounded.{is-iff, isnt-iff, below-iff, upto-iff, true-of, of-true, false-of, same-test}
+use Rattle.definitions.specs.ReadEstimate.{setsFit, isSet, tableFault}
+use Rattle.definitions.proofs.Bounded.{is-iff, isnt-iff, true-of, false-of}
 use Rattle.definitions.proofs.BlockFault.{checkFits, headingFits, inOrder, block-is}
-use Rattle.definitions.proofs.Loops.{fails, holds, Passed, passed-start, passed-turn, passed-stop, passed-end, else-stop, else-go, passing-start, passing-turn, passing-stop, passing-end}
+use Rattle.definitions.proofs.Loops.{fails, holds, Passed, passed-start, passed-turn, passed-stop, passed-end, else-stop, else-go}
 use Rattle.blocks.specs.declared.inside.Heading.{Heading}
 use Rattle.blocks.specs.Answers.{headingOf}
 use Rattle.estimate.specs.declared.Refusal.{Refusal}
 use Rattle.estimate.specs.declared.Answer.{Answer}
 use Rattle.estimate.specs.declared.Answer.the-variants.{Held, Refused}
-use Rattle.estimate.specs.Answers.{answerIn, isSet, wordFits}
-
--- ---- one word
-
-module _ (names asked i : ℕ) where
-  pub set-name : i < names → true ≡ isSet names asked i
-  unfolding _or_
-  set-name h = sym (ap (λ (b : Bool). b or (asked is 5 and 60 upto i)) (true-of (i below names) (below-iff i names .1 h)))
-
-  past : names ≤ i → isSet names asked i ≡ (asked is 5 and 60 upto i)
-  unfolding _or_
-  past h =
-      ap (λ (b : Bool). b or (asked is 5 and 60 upto i)) (false-of (i below names) (λ t. let l = below-iff i names .0 t in absurd (omega arith)))
-
-  pub set-last : names ≤ i → asked ≡ 5 → leb 60 i ≡ isSet names asked i
-  unfolding _and_ _upto_
-  set-last h e = sym (past h ∙ ap (λ (b : Bool). b and 60 upto i) (true-of (asked is 5) (is-iff asked 5 .1 e)))
-
-  pub set-none : names ≤ i → (asked ≡ 5 → ⊥) → false ≡ isSet names asked i
-  unfolding _and_
-  set-none h f = sym (past h ∙ ap (λ (b : Bool). b and 60 upto i) (false-of (asked is 5) (λ t. f (is-iff asked 5 .0 t))))
-
-module _ (names : ℕ) (set : Bool) (w : ℕ) where
-  pub fits-set : set ≡ true → eqb (w / 2 ^ names) 0 ≡ wordFits names set w
-  unfolding wordFits noBitPast _is_
-  fits-set e = sym (ap (λ (b : Bool). elim b [ true ↦ eqb (w / 2 ^ names) 0 | false ↦ eqb w 0 ]) e)
-
-  pub fits-zero : set ≡ false → eqb w 0 ≡ wordFits names set w
-  unfolding wordFits noBitPast _is_
-  fits-zero e = sym (ap (λ (b : Bool). elim b [ true ↦ eqb (w / 2 ^ names) 0 | false ↦ eqb w 0 ]) e)
-
-module _ (names : ℕ) (w : ℕ) where
-  -- from 64 names on, no bit of a word is past them
-  pub fits-all : (set : Bool) → set ≡ true → 64 ≤ names → w < 2 ^ 64 → true ≡ wordFits names set w
-  unfolding wordFits noBitPast
-  fits-all set e l h =
-      sym (ap (λ (b : Bool). elim b [ true ↦ w / 2 ^ names is 0 | false ↦ w is 0 ]) e
-      ∙ true-of (w / 2 ^ names is 0) (is-iff (w / 2 ^ names) 0 .1 (div-eq-of-lt (lt-of-lt-of-le h (pow-mono l)))))
-
-pub word-is : (names asked i w : ℕ) (set r : Bool) (block : List ℕ) → set ≡ isSet names asked i → w ≡ dataWord block i
-    → r ≡ wordFits names set w → r ≡ wordFits names (isSet names asked i) (dataWord block i)
-word-is names asked i w set r block e f g = g ∙ ap₂ (wordFits names) e f
-
-pub ruleset words = (needs, set-name, set-last, set-none, fits-set, fits-zero, fits-all, word-is)
+use Rattle.estimate.specs.Answers.{answerIn}
 
 -- ---- a heading
 
@@ -148,7 +102,7 @@ module _ (image : List ℕ) (names k asked place : ℕ) (there : 512 * (k + 1) �
         unfolding inOrder
         table-held tz = sym (found true true true true (sym ec ∙ tc) (head ∙ tf) (equal (countOf B) 0 (counted ∙ zero)) (sym ez ∙ tz))
 
-pub ruleset tables = (needs, fails, holds, passing-start, passing-turn, passing-stop, passing-end, table-2, table-3, table-4, table-5, table-held)
+pub ruleset tables = (needs, fails, holds, table-2, table-3, table-4, table-5, table-held)
 
 -- ---- one block after another
 

@@ -1,10 +1,11 @@
--- What the code's answer says, and the test of one word of a block. Assumes nothing.
+-- What the code's answer says, and the union of a block's words. Assumes nothing.
+use mathlib.Core.Path.{_≡_}
 use mathlib.Core.Bool.{Bool, true, false}
 use mathlib.Core.List.{List}
 use mathlib.Core.Option.{Option, none, some}
 use Prim.Native.Nat.{ℕ}
-use Rattle.definitions.specs.Bounded.{_and_, _or_, _is_, _below_, _upto_, orElse}
-use Rattle.definitions.specs.Words.{dataWord}
+use Rattle.definitions.specs.Bounded.{_and_, _implies_, _is_, _upto_, allBelow, anyBelow, orElse}
+use Rattle.definitions.specs.Sets.{has}
 use Rattle.definitions.specs.Answer as paper
 use Rattle.definitions.specs.Estimate.{epsBlock, kapBlock}
 use Rattle.definitions.specs.ReadEstimate.{noBitPast, tableFault}
@@ -16,13 +17,17 @@ abbrev pub answerIn : Answer → Option paper.Refusal
 answerIn Held = none
 answerIn (Refused r) = some (paper.refusal (r .number) (r .block) 0)
 
--- word i of a block of the kind asked for is a set
-abbrev pub isSet : ℕ → ℕ → ℕ → Bool
-isSet names asked i = i below names or (asked is 5 and 60 upto i)
+-- where the two last sets of kind 5 begin; other kinds have no sets past the names
+unfoldable pub lastSets : ℕ → ℕ
+lastSets asked = elim (asked is 5) [ true ↦ 60 | false ↦ 62 ]
 
--- a set has no bit past the names, and another word is zero
-unfoldable pub wordFits : ℕ → Bool → ℕ → Bool
-wordFits names set w = elim set [ true ↦ noBitPast names w | false ↦ w is 0 ]
+-- f i has no bit past n, for i from one number up to another
+unfoldable pub wordsFit : ℕ → ℕ → ℕ → (ℕ → ℕ) → Bool
+wordsFit n from to f = allBelow to (λ i. from upto i implies noBitPast n (f i))
+
+-- w is the union of the sets f i for i from one number up to another
+pub record UnionOver (f : ℕ → ℕ) (from to w : ℕ) : Type 0 where
+  pub members : (m : ℕ) → has w m ≡ anyBelow to (λ i. from upto i and has (f i) m)
 
 -- the first fault of box b's two blocks
 unfoldable pub twoFault : List ℕ → ℕ → ℕ → Option paper.Refusal

@@ -1,58 +1,66 @@
 // The blocks of an estimate, each a table of sets: refusals 2 to 5, and their first over the boxes.
 ghost use mathlib.Core.Path.{_≡_};
-ghost use Prim.Native.Nat.{_+_, _*_, _<_, _≤_};
+ghost use Prim.Native.Nat.{_+_, _*_, _≤_, min};
 ghost use lib.ListN.{length};
 ghost use Rattle.definitions.specs.Bounded.{_and_, _is_, firstBelow};
 ghost use Rattle.definitions.specs.Words.{blockOf, dataWord};
-ghost use Rattle.definitions.specs.ReadEstimate.{setsFit, tableFault};
-ghost use Rattle.estimate.specs.Answers.{answerIn, isSet, wordFits, twoFault};
+ghost use Rattle.definitions.specs.ReadEstimate.{noBitPast, setsFit, isSet, tableFault};
+ghost use Rattle.estimate.specs.Answers.{answerIn, lastSets, wordsFit, UnionOver, twoFault};
 use crate::Answer;
 use crate::Refusal;
 
-// Word i is a set: one for each name, and in kind 5 the two last.
-fn is_set(names: usize, asked: usize, i: usize) -> bool
-    ensures { λ r. ⌜ r ≡ isSet names asked i ⌝ }
+// The words that the names have: one each, at most a block's 62.
+fn name_words(names: usize) -> usize
+    ensures { λ r. ⌜ r ≡ min names 62 ⌝ }
 {
-    if i < names {
-        return true;
+    if names < 62 { names } else { 62 }
+}
+
+// Where the last sets begin: kind 5 has two, and other kinds none.
+fn last_sets(asked: usize) -> usize
+    ensures { λ r. ⌜ r ≡ lastSets asked ⌝ }
+{
+    if asked == 5 { 60 } else { 62 }
+}
+
+// The union of the words of block k from one number up to another.
+fn words_union(image: &[u8], k: usize, from: usize, to: usize) -> u64
+    requires { ⌜ (512 * (k + 1) ≤ length (now image)) × (to ≤ 62) ⌝ }
+    ensures { λ r. ⌜ UnionOver (dataWord (blockOf (now (image .entry)) k)) from to r ⌝ }
+{
+    let mut w: u64 = 0;
+    let mut i = from;
+    while i < to {
+        w = sets::union(w, blocks::inside::data_word(image, k, i));
+        i += 1;
     }
-    if asked == 5 { 60 <= i } else { false }
+    w
 }
 
-// A set has no bit past the names, and another word is zero.
-fn word_fits(names: usize, set: bool, w: u64) -> bool
-    ensures { λ r. ⌜ r ≡ wordFits names set w ⌝ }
+fn no_bit_past(names: usize, w: u64) -> bool
+    ensures { λ r. ⌜ r ≡ noBitPast names w ⌝ }
 {
-    if set {
-        if names < 64 { w >> names == 0 } else { true }
-    } else {
-        w == 0
-    }
+    if names < 64 { w >> names == 0 } else { true }
 }
 
-fn word_at(image: &[u8], names: usize, k: usize, asked: usize, i: usize) -> bool
-    requires { ⌜ (512 * (k + 1) ≤ length (now image)) × (i < 62) ⌝ }
-    ensures { λ r. ⌜ r ≡ wordFits names (isSet names asked i) (dataWord (blockOf (now (image .entry)) k) i) ⌝ }
+// The words of block k from one number up to another have no bit past n: tested once, on their union.
+fn words_fit(image: &[u8], k: usize, from: usize, to: usize, n: usize) -> bool
+    requires { ⌜ (512 * (k + 1) ≤ length (now image)) × (to ≤ 62) ⌝ }
+    ensures { λ r. ⌜ r ≡ wordsFit n from to (dataWord (blockOf (now (image .entry)) k)) ⌝ }
 {
-    word_fits(
-        names,
-        is_set(names, asked, i),
-        blocks::inside::data_word(image, k, i),
-    )
+    no_bit_past(n, words_union(image, k, from, to))
 }
 
+// The names' sets, the words between, which are zero, and the last sets.
 fn sets_fit(image: &[u8], names: usize, k: usize, asked: usize) -> bool
     requires { ⌜ 512 * (k + 1) ≤ length (now image) ⌝ }
     ensures { λ r. ⌜ r ≡ setsFit names (isSet names asked) (blockOf (now (image .entry)) k) ⌝ }
 {
-    let mut i = 0;
-    while i < 62 {
-        if !word_at(image, names, k, asked, i) {
-            return false;
-        }
-        i += 1;
-    }
-    true
+    let named = name_words(names);
+    let last = last_sets(asked);
+    words_fit(image, k, 0, named, names)
+        & words_fit(image, k, named, last, 0)
+        & words_fit(image, k, last, 62, names)
 }
 
 fn heading_fits(h: blocks::inside::Heading, k: usize, asked: usize, place: usize) -> bool
