@@ -2,7 +2,7 @@
 use mathlib.Core.Path.{_≡_, refl, sym, ap, ap₂, subst, _∙_}
 use mathlib.Core.Bool.{Bool, true, false, not}
 use mathlib.Core.List.{List}
-use mathlib.Core.Logic.{_≢_}
+use mathlib.Core.Logic.{_≢_, inr}
 use Prim.Native.Nat.{ℕ, _+_, _-_, _*_, _/_, _%_, _≤_, _<_}
 use native.Mathlib.Omega.{arith}
 use native.Mathlib.Decide.{decLt, ℕ-discrete}
@@ -10,14 +10,14 @@ use mir.Val.{Fits}
 use mir.Syntax.{w8}
 use lib.Dec.{T}
 use lib.ListN.{length, getD}
-use Rattle.definitions.specs.Bounded.{_implies_, _is_, _upto_}
+use Rattle.definitions.specs.Bounded.{_and_, _or_, _implies_, _is_, _upto_}
 use Rattle.definitions.specs.Sets.{has, forEach}
 use Rattle.definitions.specs.Words.{blockOf, countOf}
 use Rattle.definitions.specs.Model as paper
 use Rattle.definitions.specs.Image.{siteRecord, lineRecord, nameCount, boxesOf, kindsOf, sitesBlock, linesOf, boxOfImage, modelOf}
 use Rattle.definitions.specs.Estimate.{estimateOf}
 use Rattle.definitions.specs.ReadModel.{readModel, lineFits, typeFits, usesName1, usesName2}
-use Rattle.definitions.proofs.Bounded.{tests, not-false, true-of, of-true}
+use Rattle.definitions.proofs.Bounded.{tests, and-iff, or-iff, is-iff, any-iff, not-false, true-of, of-true}
 use Rattle.definitions.proofs.Faults.{not-iff}
 use Rattle.definitions.proofs.Sets.{forEach-iff, has-none, has-below}
 use Rattle.definitions.proofs.Image.{model-count, model-box, model-kinds, model-names, box-sites, box-site, box-lines, box-line}
@@ -29,7 +29,7 @@ use Rattle.model.specs.declared.Line.{Line}
 use Rattle.model.specs.declared.Layout.{Layout}
 use Rattle.model.specs.Records.{siteIn, lineIn}
 use Rattle.model.specs.Holds.{Holds}
-use Rattle.clauses.specs.Asks.{Few, Small, Needs}
+use Rattle.clauses.specs.Asks.{Few, Small}
 use Rattle.analysis.specs.Tests.{Ready, LineSmall}
 
 -- a line that fits names names of the list, or 0; its type holds names of the list, or none
@@ -75,6 +75,9 @@ module _ (model estimate : List ℕ) (ready : Ready model estimate) where
   box-8 l b h i = omega (arith, boxes-8, h .boxes)
 
   -- names
+  pub name-60 : (n : ℕ) → n < nameCount model → n < 60
+  name-60 n h = omega (arith, names-60)
+
   pub name-62 : (n : ℕ) → n < nameCount model → n < 62
   name-62 n h = omega (arith, names-60)
 
@@ -133,6 +136,26 @@ module _ (model estimate : List ℕ) (ready : Ready model estimate) where
 
         line-in : i < linesOf model b → i < paper.lineCount (paper.boxAt (modelOf model) b)
         line-in h = rw (same-box, box-lines model b) h
+
+        -- an input binds its second name, which is a listed name of kind 2
+        pub input-bound : (n : ℕ) → i < linesOf model b → paper.lineAt (paper.boxAt (modelOf model) b) i .op ≡ paper.input
+            → paper.lineAt (paper.boxAt (modelOf model) b) i .name2 ≡ n
+            → (n < nameCount model) × (paper.kind (kindsOf model) n ≡ 2) × T (paper.bindsIn (boxOfImage model b) n)
+        unfolding paper.bindsIn paper.binds
+        input-bound n h o e =
+            let x = paper.boxAt (modelOf model) b in
+            let l = paper.lineAt x i in
+            let v = valid .box b in-model .line i (line-in h) in (
+              rw (sym (model-names model), sym (ap length (model-kinds model)), sym e) (v .receivedListed o),
+              rw (sym (model-kinds model), sym e) (v .receivedKind o),
+              subst (λ (y : paper.Box). T (paper.bindsIn y n)) same-box
+                  (any-iff (paper.lineCount x) (λ j. paper.binds (paper.lineAt x j) n) .1 (
+                    i,
+                    line-in h,
+                    or-iff ((l .op is paper.restriction or l .op is paper.expose) and l .name1 is n) (l .op is paper.input and l .name2 is n) .1
+                        (inr (and-iff (l .op is paper.input) (l .name2 is n) .1 (is-iff (l .op) paper.input .1 o, is-iff (l .name2) n .1 e))),
+                  )),
+            )
 
         pub line-there : i < linesOf model b → 512 * (k + 1 + i / 31 + 1) ≤ length model
         line-there h = rw at (lines-there model blocks b inside i h)

@@ -7,7 +7,7 @@ use Prim.Native.Nat.{ℕ, _+_, _*_, _/_, _%_, _≤_, _<_}
 use native.Mathlib.Omega.{arith}
 use borrow.Author.Needs.{needs}
 use lib.Dec.{T}
-use lib.ListN.{length, getD}
+use lib.ListN.{length, getD, replicate, length-replicate, getD-replicate}
 use Rattle.definitions.specs.Bounded.{_and_, _implies_, _is_, _isnt_, _below_, allBelow, faultIf, orElse, firstBelow}
 use Rattle.definitions.specs.Sets.{has, forEach, within, meets}
 use Rattle.definitions.specs.Words.{blockOf, countOf}
@@ -17,6 +17,7 @@ use Rattle.definitions.specs.Estimate.{Estimate, estimateOf}
 use Rattle.definitions.specs.Clauses as cl
 use Rattle.definitions.specs.ShutOff as shut
 use Rattle.definitions.proofs.Bounded.{is-iff, isnt-iff, below-iff, and-iff, true-of, of-true, false-of, not-false, all-cong}
+use Rattle.definitions.proofs.Sets.{forEach-iff}
 use Rattle.definitions.proofs.Image.{model-count, model-box, model-kinds, model-names, box-sites, box-lines}
 use Rattle.definitions.proofs.Loops.{fails, holds, Passed, passed-start, passed-turn, passed-stop, passed-end, else-stop, else-go, passing-start, passing-turn, passing-stop, passing-end}
 use Rattle.model.specs.declared.Site.{Site}
@@ -24,14 +25,15 @@ use Rattle.model.specs.declared.Line.{Line}
 use Rattle.model.specs.declared.Layout.{Layout}
 use Rattle.model.specs.Records.{siteIn, lineIn}
 use Rattle.model.specs.Holds.{Holds, OfKind}
-use Rattle.clauses.specs.Asks.{Few, Small, sentIn, receivedIn, crossedIn, typedIn, faceAsk, facesAsk, otherAsk, boxesAsk, nameAsk, Needs}
+use Rattle.clauses.specs.Asks.{Few, Small, sentIn, receivedIn, crossedIn, sparedIn, typedIn, Asked, faceAsk, facesAsk, otherAsk, boxesAsk, nameAsk, restAsk, Needs}
 use Rattle.clauses.proofs.Members.{small-rho}
+use Rattle.clauses.proofs.Unions.{within-none, rest-asks}
 use Rattle.analysis.specs.declared.Broken.{Broken}
 use Rattle.analysis.specs.declared.Found.{Found}
 use Rattle.analysis.specs.declared.Found.the-variants.{Nothing, First}
 use Rattle.analysis.specs.Answers.{brokenIn, foundIn}
-use Rattle.analysis.specs.Tests.{Ready, LineSmall, nameBroken, inOrder, lineTests}
-use Rattle.analysis.proofs.Facts.{box-8, name-62, name-fits, ready-512, small-boxes, eps-there, site-there, site-at, site-31, site-62, line-at, line-there, line-small}
+use Rattle.analysis.specs.Tests.{Ready, LineSmall, Decides, nameBroken, inOrder, lineTests}
+use Rattle.analysis.proofs.Facts.{box-8, name-60, name-62, name-fits, ready-512, small-boxes, eps-there, site-there, site-at, site-31, site-62, line-at, input-bound, line-there, line-small}
 
 -- ---- one after another
 
@@ -112,7 +114,7 @@ module _ (e : Estimate) (t : List ℕ) (b i : ℕ) (l : paper.Line) (r : Option 
 
   by : ℕ → Option cl.Broken
   by op =
-      inOrder b i op (has P (l .name1)) (sentIn e b P Q) (receivedIn e b P Q) (crossedIn t b P Q)
+      inOrder b i op (has P (l .name1)) (sentIn e b P Q) (receivedIn e b P Q) (crossedIn t P Q)
       (has P (l .name1) and has (e .shown b) (l .name1) and typedIn e (l .type) (e .eps b (l .name1))) (within P (e .hidden b)) (within P (e .shown b))
 
   end : (op : ℕ) → l .op ≡ op → r ≡ by op → r ≡ lineTests e t b i l
@@ -130,14 +132,14 @@ module _ (e : Estimate) (t : List ℕ) (b i : ℕ) (l : paper.Line) (r : Option 
       end 4 o (fault-as ok (sentIn e b P Q) (cl.broken 4 b i) r q (f ∙ ap₂ (sentIn e b) es eu) ∙ sym (last (faultIf (not (sentIn e b P Q)) (cl.broken 4 b i))))
 
   pub arm-5 : (s u : ℕ) → l .op ≡ 5
-      → r ≡ orElse (faultIf (not (receivedIn e b s u)) (cl.broken 5 b i)) (faultIf (not (crossedIn t b s u)) (cl.broken 6 b i)) → s ≡ e .rho (l .name1)
+      → r ≡ orElse (faultIf (not (receivedIn e b s u)) (cl.broken 5 b i)) (faultIf (not (crossedIn t s u)) (cl.broken 6 b i)) → s ≡ e .rho (l .name1)
       → u ≡ e .rho (l .name2) → r ≡ lineTests e t b i l
   unfolding by P Q inOrder _is_ _and_
   arm-5 s u o q es eu =
       end 5 o
       (q
-      ∙ ap₂ (λ (x y : ℕ). orElse (faultIf (not (receivedIn e b x y)) (cl.broken 5 b i)) (faultIf (not (crossedIn t b x y)) (cl.broken 6 b i))) es eu
-      ∙ ap (orElse (faultIf (not (receivedIn e b P Q)) (cl.broken 5 b i))) (sym (last (faultIf (not (crossedIn t b P Q)) (cl.broken 6 b i)))))
+      ∙ ap₂ (λ (x y : ℕ). orElse (faultIf (not (receivedIn e b x y)) (cl.broken 5 b i)) (faultIf (not (crossedIn t x y)) (cl.broken 6 b i))) es eu
+      ∙ ap (orElse (faultIf (not (receivedIn e b P Q)) (cl.broken 5 b i))) (sym (last (faultIf (not (crossedIn t P Q)) (cl.broken 6 b i)))))
 
   pub arm-6 : (ok : Bool) → l .op ≡ 6 → r ≡ faultIf (not ok) (cl.broken 7 b i)
       → ok ≡ (has (e .rho (l .name1)) (l .name1) and has (e .shown b) (l .name1) and typedIn e (l .type) (e .eps b (l .name1))) → r ≡ lineTests e t b i l
@@ -171,7 +173,7 @@ arm-none e t b i l f3 f4 f5 f6 f7 f8 =
     let p = e .rho (l .name1) in
     let q = e .rho (l .name2) in
     orElse (x (e3 j) 3 (has p (l .name1))) (orElse (x (e4 j) 4 (sentIn e b p q)) (orElse (x (e5 j) 5 (receivedIn e b p q))
-    (orElse (x (e5 j) 6 (crossedIn t b p q))
+    (orElse (x (e5 j) 6 (crossedIn t p q))
     (orElse (x (e6 j) 7 (has p (l .name1) and has (e .shown b) (l .name1) and typedIn e (l .type) (e .eps b (l .name1))))
     (orElse (x (e7 j) 8 (within p (e .hidden b))) (x (e8 j) 9 (within p (e .shown b)))))))))
 
@@ -183,38 +185,100 @@ for-each-as s p q f =
     all-cong 64 (λ n. elim (has s n) [ true ↦ p n | false ↦ true ]) (λ n. elim (has s n) [ true ↦ q n | false ↦ true ])
     (λ n h. ap (λ (x : Bool). elim (has s n) [ true ↦ x | false ↦ true ]) (f n h))
 
-crossed-is : (m : paper.Model) (estimate t : List ℕ) (boxes b : ℕ) (l : paper.Line) → Needs estimate boxes t → boxes ≡ paper.boxCount m → b < boxes
-    → crossedIn t b (estimateOf estimate .rho (l .name1)) (estimateOf estimate .rho (l .name2)) ≡ cl.clause6 m (estimateOf estimate) b l
-unfolding crossedIn cl.clause6 nameAsk boxesAsk otherAsk facesAsk faceAsk
-crossed-is m estimate t boxes b l needed count inside =
-    let e = estimateOf estimate in
-    let q = e .rho (l .name2) in
-    for-each-as (e .rho (l .name1)) (λ a. within (getD t (64 * b + a) 0) q)
-    (λ a. has (e .shown b) a implies allBelow (paper.boxCount m) (λ k. k isnt b implies forEach (e .shown k) (λ c. meets (e .eps b a) (e .eps k c) implies within (e .kap k c) q)))
-    (λ a h. needed .each b inside a h .same q ∙ ap (λ (n : ℕ). nameAsk e n b a q) count)
+-- clause 6, as what each name of rho(p) asks
+asks-are : (m : paper.Model) (e : Estimate) (boxes b : ℕ) (l : paper.Line) → boxes ≡ paper.boxCount m
+    → forEach (e .rho (l .name1)) (λ a. nameAsk e boxes b a (e .rho (l .name2))) ≡ cl.clause6 m e b l
+unfolding cl.clause6 nameAsk boxesAsk otherAsk facesAsk faceAsk
+asks-are m e boxes b l count =
+    ap (λ (n : ℕ). forEach (e .rho (l .name1)) (λ a. nameAsk e n b a (e .rho (l .name2)))) count
 
-tests-are : (m : paper.Model) (estimate t : List ℕ) (boxes b i : ℕ) → Needs estimate boxes t → boxes ≡ paper.boxCount m → b < boxes
-    → lineTests (estimateOf estimate) t b i (paper.lineAt (paper.boxAt m b) i) ≡ cl.lineBroken m (estimateOf estimate) b i
+module _ (model estimate : List ℕ) (boxes b : ℕ) (t : List ℕ) (count : boxes ≡ boxesOf model) where
+  in-count : boxes ≡ paper.boxCount (modelOf model)
+  in-count = count ∙ sym (model-count model)
+
+  -- the table holds what each name asks
+  pub needs-decide : Needs estimate boxes b t → Decides model estimate b t
+  unfolding crossedIn
+  needs-decide needed = record {
+    size = needed .size;
+    each = λ i h o.
+        let e = estimateOf estimate in
+        let l = paper.lineAt (paper.boxAt (modelOf model) b) i in
+        for-each-as (e .rho (l .name1)) (λ a. within (getD t a 0) (e .rho (l .name2))) (λ a. nameAsk e boxes b a (e .rho (l .name2)))
+        (λ a k. needed .each a k .same (e .rho (l .name2))) ∙ asks-are (modelOf model) e boxes b l in-count;
+  }
+
+  -- the table is empty, and no input can break the clause
+  pub spared-decide : (l : Layout) (s w : ℕ) (ok : Bool) → Ready model estimate → Holds model l → b < boxes → Asked w (restAsk (estimateOf estimate) boxes b)
+      → ((m : ℕ) → has s m ≡ (has (getD (l .bound) b 0) m and has (l .received) m)) → ok ≡ sparedIn (estimateOf estimate) s w → ok ≡ true → t ≡ replicate 64 0
+      → Decides model estimate b t
+  unfolding crossedIn sparedIn
+  spared-decide l s w ok ready held inside rest members told passed zeros = record {
+    size = ap length zeros ∙ length-replicate {A = ℕ} 64 0;
+    each = λ i h o.
+        let e = estimateOf estimate in
+        let x = paper.lineAt (paper.boxAt (modelOf model) b) i in
+        let q = e .rho (x .name2) in
+        let f = input-bound model estimate ready b in-image (sitesBlock model b) refl i (x .name2) h o refl in
+        let few : x .name2 < 64 = omega (arith, name-62 model estimate ready (x .name2) (f .0)) in
+        let received : T (within w q) = forEach-iff s (λ n. within w (e .rho n)) .0 (of-true (sym told ∙ passed)) (x .name2) few
+        (of-true (members (x .name2) ∙ true-of _ (and-iff (has (getD (l .bound) b 0) (x .name2)) (has (l .received) (x .name2)) .1 (
+          of-true (held .bound b in-image (x .name2) few ∙ true-of _ (f .2)),
+          of-true (held .received (x .name2) few ∙ true-of _ (and-iff (x .name2 below nameCount model) (paper.kind (kindsOf model) (x .name2) is 2) .1
+              (below-iff (x .name2) (nameCount model) .1 (f .0), is-iff (paper.kind (kindsOf model) (x .name2)) 2 .1 (f .1)))),
+        )))) in
+        for-each-as (e .rho (x .name1)) (λ a. within (getD t a 0) q) (λ a. nameAsk e boxes b a q)
+        (λ a k. ap (λ (y : List ℕ). within (getD y a 0) q) zeros ∙ ap (λ (y : ℕ). within y q) (getD-replicate {A = ℕ} 64 a 0 0 k) ∙ within-none q
+        ∙ sym (true-of (nameAsk e boxes b a q) (rest-asks e boxes b w q a rest received)))
+        ∙ asks-are (modelOf model) e boxes b x in-count;
+  }
+    where
+      in-image : b < boxesOf model
+      in-image = rw count at inside
+
+-- the names that inputs bind are below 60
+pub inputs-few : (model estimate : List ℕ) (l : Layout) (b s : ℕ) → Ready model estimate → Holds model l → b < l .boxes
+    → ((m : ℕ) → has s m ≡ (has (getD (l .bound) b 0) m and has (l .received) m)) → Few s
+inputs-few model estimate l b s ready held inside members = record {
+  below = λ n h u.
+      let both = and-iff (has (getD (l .bound) b 0) n) (has (l .received) n) .0 (of-true (sym (members n) ∙ true-of (has s n) u)) in
+      let k = and-iff (n below nameCount model) (paper.kind (kindsOf model) n is 2) .0 (of-true (sym (held .received n h) ∙ true-of (has (l .received) n) (both .1))) in
+      name-60 model estimate ready n (below-iff n (nameCount model) .0 (k .0));
+}
+
+-- what clause 6 finds matters at an input alone
+six-as : (op x y : Bool) (z : cl.Broken) → (op ≡ true → x ≡ y) → faultIf (op and not x) z ≡ faultIf (op and not y) z
+unfolding _and_
+six-as true x y z f = ap (λ (b : Bool). faultIf (not b) z) (f refl)
+six-as false x y z f = refl
+
+tests-are : (m : paper.Model) (estimate t : List ℕ) (b i : ℕ) →
+    let l = paper.lineAt (paper.boxAt m b) i in
+    let e = estimateOf estimate in
+    (l .op ≡ paper.input → crossedIn t (e .rho (l .name1)) (e .rho (l .name2)) ≡ cl.clause6 m e b l) → lineTests e t b i l ≡ cl.lineBroken m e b i
 unfolding lineTests inOrder cl.lineBroken cl.clause3 cl.clause4 cl.clause5 cl.clause7 cl.clause8 cl.clause9 sentIn receivedIn typedIn
-tests-are m estimate t boxes b i needed count inside =
+tests-are m estimate t b i decided =
     let e = estimateOf estimate in
     let l = paper.lineAt (paper.boxAt m b) i in
     let p = e .rho (l .name1) in
     let q = e .rho (l .name2) in
-    ap (λ (x : Bool). inOrder b i (l .op) (has p (l .name1)) (sentIn e b p q) (receivedIn e b p q) x
-    (has p (l .name1) and has (e .shown b) (l .name1) and typedIn e (l .type) (e .eps b (l .name1))) (within p (e .hidden b)) (within p (e .shown b)))
-    (crossed-is m estimate t boxes b l needed count inside)
+    ap (λ (x : Option cl.Broken).
+    orElse (faultIf (l .op is paper.restriction and not (has p (l .name1))) (cl.broken 3 b i)) (orElse (faultIf (l .op is paper.output and not (sentIn e b p q)) (cl.broken 4 b i))
+    (orElse (faultIf (l .op is paper.input and not (receivedIn e b p q)) (cl.broken 5 b i)) (orElse x
+    (orElse (faultIf (l .op is paper.expose and not (has p (l .name1) and has (e .shown b) (l .name1) and typedIn e (l .type) (e .eps b (l .name1)))) (cl.broken 7 b i))
+    (orElse (faultIf (l .op is paper.hide and not (within p (e .hidden b))) (cl.broken 8 b i)) (faultIf (l .op is paper.unhide and not (within p (e .shown b))) (cl.broken 9 b i))))))))
+    (six-as (l .op is paper.input) (crossedIn t p q) (cl.clause6 m e b l) (cl.broken 6 b i) (λ o. decided (is-iff (l .op) paper.input .0 (of-true o))))
 
-pub line-is : (model estimate t : List ℕ) (boxes k b i : ℕ) (l : Line) (r : Option cl.Broken) → Ready model estimate → Needs estimate boxes t
+pub line-is : (model estimate t : List ℕ) (boxes k b i : ℕ) (l : Line) (r : Option cl.Broken) → Ready model estimate → Decides model estimate b t
     → boxes ≡ boxesOf model → b < boxes → k ≡ sitesBlock model b → i < linesOf model b
     → lineIn l ≡ lineRecord (blockOf model (k + 1 + i / 31)) (i % 31) → r ≡ lineTests (estimateOf estimate) t b i (lineIn l)
     → r ≡ cl.lineBroken (modelOf model) (estimateOf estimate) b i
-line-is model estimate t boxes k b i l r ready needed count inside at h el q =
+line-is model estimate t boxes k b i l r ready decides count inside at h el q =
     q ∙ ap (lineTests (estimateOf estimate) t b i) (el ∙ sym (line-at model estimate ready b (rw count at inside) k at i h))
-    ∙ tests-are (modelOf model) estimate t boxes b i needed (count ∙ sym (model-count model)) inside
+    ∙ tests-are (modelOf model) estimate t b i (decides .each i h)
 
-pub needs-size : (estimate : List ℕ) (boxes : ℕ) (t : List ℕ) → Needs estimate boxes t → length t ≡ 512
-needs-size estimate boxes t n = n .size
+pub table-size : (model estimate : List ℕ) (b : ℕ) (t : List ℕ) → Decides model estimate b t → length t ≡ 64
+table-size model estimate b t d = d .size
 
 -- a box is inside, by a count that is the same
 pub inside-of : (n b count : ℕ) → count ≡ n → b < count → b < n
@@ -300,10 +364,12 @@ pub ruleset inputs = (needs, fault-as, else-as, nothing-else, first-else)
 
 pub ruleset arms = (needs, small-rho, arm-3, arm-4, arm-5, arm-6, arm-7, arm-8, arm-none)
 
-pub ruleset lines-9 = (needs, small-boxes, line-there, line-small, needs-size, inside-of, line-is)
+pub ruleset lines-9 = (needs, small-boxes, line-there, line-small, table-size, inside-of, line-is)
 
 pub ruleset firsts = (needs, passed-start, passed-turn, passed-end, nothing, first-of)
 
 pub ruleset boxes = (needs, box-8, passed-start, passed-turn, passed-end, nothing, first-of, holds-at, holds-sites, holds-lines, inside-of, box-stop, box-go, all-stop, all-go, small-boxes)
+
+pub ruleset tables = (needs, small-boxes, ready-512, needs-decide, spared-decide, inputs-few)
 
 pub ruleset apart = (needs, fails, holds, passing-start, passing-turn, passing-stop, passing-end, apart-same, apart-other)

@@ -9,12 +9,12 @@ use Rattle.definitions.specs.Bounded.{_and_, _is_, _below_, _upto_, faultIf, or
 use Rattle.definitions.specs.Sets.{has, within}
 use Rattle.definitions.specs.Words.{blockOf}
 use Rattle.definitions.specs.Answer.{Refusal, unplaced}
-use Rattle.definitions.specs.Model.{Line, Model, restriction, output, input, expose, hide, unhide}
-use Rattle.definitions.specs.Image.{nameCount, boxesOf}
+use Rattle.definitions.specs.Model.{Line, Model, boxAt, lineAt, restriction, output, input, expose, hide, unhide}
+use Rattle.definitions.specs.Image.{nameCount, boxesOf, linesOf, modelOf}
 use Rattle.definitions.specs.ReadModel.{readModel}
 use Rattle.definitions.specs.Estimate.{Estimate, estimateOf}
 use Rattle.definitions.specs.ReadEstimate.{readEstimate}
-use Rattle.definitions.specs.Clauses.{Broken, broken, clause1, Verdict, refusedModel, refusedEstimate}
+use Rattle.definitions.specs.Clauses.{Broken, broken, clause1, clause6, Verdict, refusedModel, refusedEstimate}
 use Rattle.definitions.specs.ShutOff.{Reply, nobody, isShutOff, shutOff}
 use Rattle.model.specs.declared.Answer.{Answer}
 use Rattle.model.specs.declared.Answer.the-variants.{Held}
@@ -50,8 +50,15 @@ unfoldable pub lineTests : Estimate → List ℕ → ℕ → ℕ → Line → Op
 lineTests e t b i l =
     let p = e .rho (l .name1) in
     let q = e .rho (l .name2) in
-    inOrder b i (l .op) (has p (l .name1)) (sentIn e b p q) (receivedIn e b p q) (crossedIn t b p q)
+    inOrder b i (l .op) (has p (l .name1)) (sentIn e b p q) (receivedIn e b p q) (crossedIn t p q)
     (has p (l .name1) and has (e .shown b) (l .name1) and typedIn e (l .type) (e .eps b (l .name1))) (within p (e .hidden b)) (within p (e .shown b))
+
+-- the table decides clause 6 at each input of box b
+pub record Decides (model estimate : List ℕ) (b : ℕ) (t : List ℕ) : Type 0 where
+  pub size : length t ≡ 64
+  pub each : (i : ℕ) → i < linesOf model b → lineAt (boxAt (modelOf model) b) i .op ≡ input
+      → crossedIn t (estimateOf estimate .rho (lineAt (boxAt (modelOf model) b) i .name1)) (estimateOf estimate .rho (lineAt (boxAt (modelOf model) b) i .name2))
+      ≡ clause6 (modelOf model) (estimateOf estimate) b (lineAt (boxAt (modelOf model) b) i)
 
 -- the layout stands where the answer is that the model is held
 pub record HeldBy (model : List ℕ) (answer : Answer) (l : Layout) : Type 0 where

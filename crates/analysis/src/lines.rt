@@ -10,9 +10,9 @@ ghost use Rattle.definitions.specs.Estimate.{estimateOf};
 ghost use Rattle.definitions.specs.Clauses.{broken, siteBroken, lineBroken};
 ghost use Rattle.model.specs.Records.{lineIn};
 ghost use Rattle.model.specs.Holds.{OfKind};
-ghost use Rattle.clauses.specs.Asks.{Few, Small, receivedIn, crossedIn, Needs};
+ghost use Rattle.clauses.specs.Asks.{Few, Small, receivedIn, crossedIn};
 ghost use Rattle.analysis.specs.Answers.{foundIn};
-ghost use Rattle.analysis.specs.Tests.{Ready, LineSmall, nameBroken, lineTests};
+ghost use Rattle.analysis.specs.Tests.{Ready, LineSmall, Decides, nameBroken, lineTests};
 use crate::Broken;
 use crate::Found;
 use model::Line;
@@ -71,18 +71,18 @@ fn earlier(one: Found, two: Found) -> Found
 }
 
 // Clauses 5 and 6, where s is rho of the channel and q is rho of what is bound.
-fn input(estimate: &[u8], t: &[u64; 512], b: usize, i: usize, s: u64, q: u64) -> Found
-    requires { ⌜ (512 * (3 + 2 * b) ≤ length (now estimate)) × (b < 8) × Few s × (length (now t) ≡ 512) ⌝ }
-    ensures { λ r. ⌜ foundIn r ≡ orElse (faultIf (not (receivedIn (estimateOf (now (estimate .entry))) b s q)) (broken 5 b i)) (faultIf (not (crossedIn (now (t .entry)) b s q)) (broken 6 b i)) ⌝ }
+fn input(estimate: &[u8], t: &[u64; 64], b: usize, i: usize, s: u64, q: u64) -> Found
+    requires { ⌜ (512 * (3 + 2 * b) ≤ length (now estimate)) × Few s × (length (now t) ≡ 64) ⌝ }
+    ensures { λ r. ⌜ foundIn r ≡ orElse (faultIf (not (receivedIn (estimateOf (now (estimate .entry))) b s q)) (broken 5 b i)) (faultIf (not (crossedIn (now (t .entry)) s q)) (broken 6 b i)) ⌝ }
 {
     let five = unless(clauses::walks::received(estimate, b, s, q), 5, b, i);
-    let six = unless(clauses::walks::crossed(t, b, s, q), 6, b, i);
+    let six = unless(clauses::walks::crossed(t, s, q), 6, b, i);
     earlier(five, six)
 }
 
 // The clauses of a line of box b, by its operation.
-fn tests(estimate: &[u8], t: &[u64; 512], boxes: usize, b: usize, i: usize, l: Line) -> Found
-    requires { ⌜ Small (now estimate) boxes × (b < boxes) × (length (now t) ≡ 512) × LineSmall (lineIn l) ⌝ }
+fn tests(estimate: &[u8], t: &[u64; 64], boxes: usize, b: usize, i: usize, l: Line) -> Found
+    requires { ⌜ Small (now estimate) boxes × (b < boxes) × (length (now t) ≡ 64) × LineSmall (lineIn l) ⌝ }
     ensures { λ r. ⌜ foundIn r ≡ lineTests (estimateOf (now (estimate .entry))) (now (t .entry)) b i (lineIn l) ⌝ }
 {
     let op = l.op;
@@ -120,13 +120,13 @@ fn tests(estimate: &[u8], t: &[u64; 512], boxes: usize, b: usize, i: usize, l: L
 pub fn line(
     model: &[u8],
     estimate: &[u8],
-    t: &[u64; 512],
+    t: &[u64; 64],
     boxes: usize,
     k: usize,
     b: usize,
     i: usize,
 ) -> Found
-    requires { ⌜ Ready (now model) (now estimate) × Needs (now estimate) boxes (now t) × (boxes ≡ boxesOf (now model)) × (b < boxes) × (k ≡ sitesBlock (now model) b) × (i < linesOf (now model) b) ⌝ }
+    requires { ⌜ Ready (now model) (now estimate) × Decides (now model) (now estimate) b (now t) × (boxes ≡ boxesOf (now model)) × (b < boxes) × (k ≡ sitesBlock (now model) b) × (i < linesOf (now model) b) ⌝ }
     ensures { λ r. ⌜ foundIn r ≡ lineBroken (modelOf (now (model .entry))) (estimateOf (now (estimate .entry))) b i ⌝ }
 {
     tests(estimate, t, boxes, b, i, model::views::line(model, k, i))

@@ -10,9 +10,9 @@ ghost use Rattle.definitions.specs.Estimate.{estimateOf};
 ghost use Rattle.definitions.specs.Clauses.{siteBroken, lineBroken, boxBroken, firstBroken};
 ghost use Rattle.definitions.specs.ShutOff as shut;
 ghost use Rattle.model.specs.Holds.{OfKind, Holds};
-ghost use Rattle.clauses.specs.Asks.{Small, Types, Needs};
+ghost use Rattle.clauses.specs.Asks.{Small, Types, Sends};
 ghost use Rattle.analysis.specs.Answers.{foundIn};
-ghost use Rattle.analysis.specs.Tests.{Ready, nameBroken};
+ghost use Rattle.analysis.specs.Tests.{Ready, Decides, nameBroken};
 use crate::Found;
 use crate::lines;
 use model::Layout;
@@ -50,13 +50,13 @@ fn sites(model: &[u8], estimate: &[u8], k: usize, b: usize, count: usize) -> Fou
 fn each_line(
     model: &[u8],
     estimate: &[u8],
-    t: &[u64; 512],
+    t: &[u64; 64],
     boxes: usize,
     k: usize,
     b: usize,
     total: usize,
 ) -> Found
-    requires { ⌜ Ready (now model) (now estimate) × Needs (now estimate) boxes (now t) × (boxes ≡ boxesOf (now model)) × (b < boxes) × (k ≡ sitesBlock (now model) b) × (total ≡ linesOf (now model) b) ⌝ }
+    requires { ⌜ Ready (now model) (now estimate) × Decides (now model) (now estimate) b (now t) × (boxes ≡ boxesOf (now model)) × (b < boxes) × (k ≡ sitesBlock (now model) b) × (total ≡ linesOf (now model) b) ⌝ }
     ensures { λ r. ⌜ foundIn r ≡ firstBelow total (lineBroken (modelOf (now (model .entry))) (estimateOf (now (estimate .entry))) b) ⌝ }
 {
     let mut j = 0;
@@ -70,9 +70,26 @@ fn each_line(
     Found::Nothing
 }
 
+// The table that decides clause 6 in box b. It stays empty where no input of the box can break the clause, since all that other boxes may send
+// is within rho of each name that the box's inputs bind.
+fn table(model: &[u8], estimate: &[u8], sends: &[u64; 8], layout: Layout, b: usize) -> [u64; 64]
+    requires { ⌜ Ready (now model) (now estimate) × Holds (now model) layout × Sends (now estimate) (layout .boxes) (now sends) × (b < layout .boxes) × (b < 8) ⌝ }
+    ensures { λ r. ⌜ Decides (now (model .entry)) (now (estimate .entry)) b r ⌝ }
+{
+    let bound = layout.bound;
+    let inputs = sets::shared(bound[b], layout.received);
+    let all = clauses::gather::rest(estimate, sends, layout.boxes, b);
+    let mut t = [0u64; 64];
+    if clauses::walks::spared(estimate, inputs, all) {
+        return t;
+    }
+    clauses::gather::needs(estimate, sends, layout.boxes, b, &mut t);
+    t
+}
+
 // Box b: its sites, then its lines.
-fn one_box(model: &[u8], estimate: &[u8], t: &[u64; 512], layout: Layout, b: usize) -> Found
-    requires { ⌜ Ready (now model) (now estimate) × Holds (now model) layout × Needs (now estimate) (layout .boxes) (now t) × (b < layout .boxes) × (b < 8) ⌝ }
+fn one_box(model: &[u8], estimate: &[u8], sends: &[u64; 8], layout: Layout, b: usize) -> Found
+    requires { ⌜ Ready (now model) (now estimate) × Holds (now model) layout × Sends (now estimate) (layout .boxes) (now sends) × (b < layout .boxes) × (b < 8) ⌝ }
     ensures { λ r. ⌜ foundIn r ≡ boxBroken (modelOf (now (model .entry))) (estimateOf (now (estimate .entry))) b ⌝ }
 {
     let at = layout.at;
@@ -82,17 +99,18 @@ fn one_box(model: &[u8], estimate: &[u8], t: &[u64; 512], layout: Layout, b: usi
     if let Found::First(_) = f {
         return f;
     }
+    let t = table(model, estimate, sends, layout, b);
     let counts = layout.lines;
-    each_line(model, estimate, t, layout.boxes, k, b, counts[b])
+    each_line(model, estimate, &t, layout.boxes, k, b, counts[b])
 }
 
-fn each_box(model: &[u8], estimate: &[u8], t: &[u64; 512], layout: Layout, count: usize) -> Found
-    requires { ⌜ Ready (now model) (now estimate) × Holds (now model) layout × Needs (now estimate) (layout .boxes) (now t) × (count ≡ layout .boxes) ⌝ }
+fn each_box(model: &[u8], estimate: &[u8], sends: &[u64; 8], layout: Layout, count: usize) -> Found
+    requires { ⌜ Ready (now model) (now estimate) × Holds (now model) layout × Sends (now estimate) (layout .boxes) (now sends) × (count ≡ layout .boxes) ⌝ }
     ensures { λ r. ⌜ foundIn r ≡ firstBelow count (boxBroken (modelOf (now (model .entry))) (estimateOf (now (estimate .entry)))) ⌝ }
 {
     let mut b = 0;
     while b < count {
-        let f = one_box(model, estimate, t, layout, b);
+        let f = one_box(model, estimate, sends, layout, b);
         if let Found::First(_) = f {
             return f;
         }
@@ -101,7 +119,7 @@ fn each_box(model: &[u8], estimate: &[u8], t: &[u64; 512], layout: Layout, count
     Found::Nothing
 }
 
-// Clause 1 by name; then box by box. What clause 6 asks is gathered first.
+// Clause 1 by name; then box by box.
 pub fn first_broken(model: &[u8], estimate: &[u8], layout: Layout) -> Found
     requires { ⌜ Ready (now model) (now estimate) × Holds (now model) layout ⌝ }
     ensures { λ r. ⌜ foundIn r ≡ firstBroken (modelOf (now (model .entry))) (estimateOf (now (estimate .entry))) ⌝ }
@@ -110,9 +128,8 @@ pub fn first_broken(model: &[u8], estimate: &[u8], layout: Layout) -> Found
     if let Found::First(_) = f {
         return f;
     }
-    let mut t = [0u64; 512];
-    clauses::gather::needs(estimate, layout.boxes, &mut t);
-    each_box(model, estimate, &t, layout, layout.boxes)
+    let sends = clauses::gather::sends(estimate, layout.boxes);
+    each_box(model, estimate, &sends, layout, layout.boxes)
 }
 
 // Box h is linked to no other box.

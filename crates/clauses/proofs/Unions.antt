@@ -1,27 +1,27 @@
 -- A set holds each of several exactly when it holds their union: what clause 6 asks is gathered so. Assumes nothing.
-use mathlib.Core.Path.{_≡_, refl, sym, ap, _∙_}
+use mathlib.Core.Path.{_≡_, refl, sym, ap, subst, _∙_}
 use mathlib.Core.Bool.{Bool, true, false}
 use mathlib.Core.List.{List}
 use mathlib.Core.Logic.{_⊎_, inl, inr, ⊎-elim}
-use Prim.Native.Nat.{ℕ, _+_, _*_, _/_, _%_, _^_, _≤_, _<_, zero-le}
+use Prim.Native.Nat.{ℕ, _+_, _^_, _≤_, _<_, zero-le}
 use native.Mathlib.Nat.{not-suc-le-zero, le-antisymm}
 use native.Mathlib.Numerals.{add-one}
 use native.Mathlib.Omega.{arith}
 use native.Mathlib.Decide.{ℕ-discrete}
 use borrow.Author.Needs.{needs}
 use lib.Dec.{T}
-use lib.ListN.{length, getD, set, replicate, length-set, length-replicate}
+use lib.ListN.{length, getD, set, replicate, length-set, length-replicate, getD-replicate}
 use lib.Seq.{getD-set-same, getD-set-other}
 use Rattle.definitions.specs.Bounded.{_and_, _or_, _implies_, _isnt_, allBelow}
 use Rattle.definitions.specs.Sets.{has, forEach, forSome, within, meets}
 use Rattle.definitions.specs.Estimate.{Estimate, estimateOf}
 use Rattle.definitions.specs.ShutOff as shut
-use Rattle.definitions.proofs.Bounded.{and-iff, or-iff, implies-iff, isnt-iff, true-of, of-true, false-of, not-false, same-test}
+use Rattle.definitions.proofs.Bounded.{and-iff, or-iff, all-iff, implies-iff, isnt-iff, true-of, of-true, false-of, not-false, same-test}
 use Rattle.definitions.proofs.Sets.{or-false, has-none, forEach-iff, forSome-iff, within-iff, within-trans, meets-iff, meets-comm}
 use Rattle.definitions.proofs.Loops.{fails, holds}
 use Rattle.sets.specs.Lowest.{firstOf, RestOf}
-use Rattle.sets.proofs.Walk.{Left, left-start, left-turn, walk-less, split-each, split-some, none-each, none-some}
-use Rattle.clauses.specs.Asks.{Few, Small, receivedIn, facesIn, Types, Asked, Joined, faceAsk, sendAsk, facesAsk, otherAsk, boxesAsk, nameAsk, Sends, Needs}
+use Rattle.sets.proofs.Walk.{Left, left-start, left-turn, left-in, first-below, rest-keeps, walk-less, split-each, split-some, none-each, none-some}
+use Rattle.clauses.specs.Asks.{Few, Small, receivedIn, facesIn, Types, Asked, Joined, faceAsk, sendAsk, facesAsk, otherAsk, boxesAsk, nameAsk, restOne, restAsk, Sends, Needs}
 use Rattle.clauses.proofs.Members.{left-62, small-shown}
 
 -- ---- one union
@@ -41,7 +41,7 @@ within-union v w u e q =
     within-iff v q .1
     (λ n l h. ⊎-elim (within-iff w q .0 (p .0) n l) (within-iff u q .0 (p .1) n l) (or-iff (has w n) (has u n) .0 (of-true (sym (e n) ∙ true-of (has v n) h)))))
 
-within-none : (q : ℕ) → within 0 q ≡ true
+pub within-none : (q : ℕ) → within 0 q ≡ true
 within-none q = true-of (within 0 q) (within-iff 0 q .1 (λ n l t. absurd (not-false (has-none n) t)))
 
 and-true : (b : Bool) → (b and true) ≡ b
@@ -268,49 +268,94 @@ module _ (image : List ℕ) (boxes : ℕ) where
   pub sending-end : (k : ℕ) (t : List ℕ) → Sending image boxes k t → boxes ≤ k → Sends image boxes t
   sending-end k t f h = record { size = f .size; each = λ i l. f .each i (omega arith) }
 
-pub shown-62 : (image : List ℕ) (boxes b s a : ℕ) (r : Bool) → Small image boxes → b < boxes → a < 64 → r ≡ has s a → s ≡ estimateOf image .shown b → r ≡ true → a < 62
-shown-62 image boxes b s a r small h l e q t =
-    let m = small .shown b h .below a l (of-true (sym (ap (λ (z : ℕ). has z a) q) ∙ sym e ∙ t)) in omega arith
+-- the table of what each name of box b asks, right but for the names left of those shown
+pub record Filling (image : List ℕ) (boxes b left : ℕ) (t : List ℕ) : Type 0 where
+  pub size : length t ≡ 64
+  pub there : Left (estimateOf image .shown b) left
+  pub each : (a : ℕ) → a < 64 → (T (has left a) → ⊥) → Asked (getD t a 0) (nameAsk (estimateOf image) boxes b a)
 
-module _ (e : Estimate) (boxes b a s : ℕ) (r : Bool) (er : r ≡ has s a) (es : s ≡ e .shown b) where
-  pub name-in : (w x : ℕ) → r ≡ true → Asked w (boxesAsk e boxes b x) → x ≡ e .eps b a → Asked w (nameAsk e boxes b a)
+module _ (image : List ℕ) (boxes b : ℕ) where
+  pub filling-start : (left : ℕ) (t : List ℕ) → t ≡ replicate 64 0 → left ≡ estimateOf image .shown b → left < 2 ^ 64 → Filling image boxes b left t
   unfolding nameAsk _implies_
-  name-in w x t j ex = record {
-    same = λ q. j .same q ∙ ap (λ (z : ℕ). boxesAsk e boxes b z q) ex
-        ∙ sym (ap (λ (z : Bool). z implies boxesAsk e boxes b (e .eps b a) q) (sym (er ∙ ap (λ (z : ℕ). has z a) es) ∙ t));
+  filling-start left t z e h = record {
+    size = ap length z ∙ length-replicate {A = ℕ} 64 0;
+    there = subst (λ (s : ℕ). Left s left) e (left-start left h);
+    each = λ a l out. record {
+      same = λ q. ap (λ (x : List ℕ). within (getD x a 0) q) z ∙ ap (λ (x : ℕ). within x q) (getD-replicate {A = ℕ} 64 a 0 0 l) ∙ within-none q
+          ∙ sym (ap (λ (x : Bool). x implies boxesAsk (estimateOf image) boxes b (estimateOf image .eps b a) q)
+          (ap (λ (s : ℕ). has s a) (sym e) ∙ false-of (has left a) out));
+    };
   }
 
-  pub name-out : r ≡ false → Asked 0 (nameAsk e boxes b a)
-  unfolding nameAsk _implies_
-  name-out t = record {
-    same = λ q. within-none q
-        ∙ sym (ap (λ (z : Bool). z implies boxesAsk e boxes b (e .eps b a) q) (sym (er ∙ ap (λ (z : ℕ). has z a) es) ∙ t));
+  module _ (left : ℕ) (t : List ℕ) (f : Filling image boxes b left t) where
+    pub filling-62 : (n : ℕ) → Small image boxes → b < boxes → (left ≡ 0 → ⊥) → n ≡ firstOf left → n < 62
+    filling-62 n small h = left-62 (estimateOf image .shown b) left n (small .shown b h) (f .there)
+
+    pub filling-64 : (n : ℕ) → (left ≡ 0 → ⊥) → n ≡ firstOf left → n < 64
+    filling-64 n = first-below left n (f .there .fit)
+
+    pub filling-turn : (n u w x : ℕ) → (left ≡ 0 → ⊥) → n ≡ firstOf left → RestOf left u → Asked w (boxesAsk (estimateOf image) boxes b x)
+        → x ≡ estimateOf image .eps b n → Filling image boxes b u (set t n w)
+    unfolding nameAsk _implies_
+    filling-turn n u w x z e r a ex = record {
+      size = simp length-set (f .size);
+      there = left-turn (estimateOf image .shown b) left u (f .there) z r;
+      each = λ i l out. pick i l out (ℕ-discrete i n);
+    }
+      where
+        here : Asked w (nameAsk (estimateOf image) boxes b n)
+        here = record {
+          same = λ q. a .same q ∙ ap (λ (y : ℕ). boxesAsk (estimateOf image) boxes b y q) ex
+              ∙ sym (ap (λ (y : Bool). y implies boxesAsk (estimateOf image) boxes b (estimateOf image .eps b n) q)
+              (true-of (has (estimateOf image .shown b) n) (left-in (estimateOf image .shown b) left n (f .there) z e)));
+        }
+
+        pick : (i : ℕ) → i < 64 → (T (has u i) → ⊥) → Dec (i ≡ n) → Asked (getD (set t n w) i 0) (nameAsk (estimateOf image) boxes b i)
+        pick i l out (yes y) = rw (y, getD-set-same t n w 0 (omega (arith, f .size, y, l))) here
+        pick i l out (no y) =
+            rw (getD-set-other t n i w 0)
+            (f .each i l (λ v. out (rest-keeps left u n r e i y v)))
+
+    pub filling-end : left ≡ 0 → Needs image boxes b t
+    filling-end z = record { size = f .size; each = λ a l. f .each a l (λ v. not-false (ap (λ (x : ℕ). has x a) z ∙ has-none a) v) }
+
+-- ---- all that other boxes may send
+
+pub rest-in-other : (image : List ℕ) (boxes b k w v u : ℕ) (t : List ℕ) → (k ≡ b → ⊥) → Sends image boxes t → k < boxes → u ≡ getD t k 0 → UnionOf v w u
+    → Joined v w (restOne (estimateOf image) b k)
+unfolding restOne _implies_
+rest-in-other image boxes b k w v u t f d h eu j =
+    let e = estimateOf image in
+    record {
+      same = λ q. within-union v w u j q
+          ∙ ap (λ (z : Bool). within w q and z)
+          (sends-at image boxes t k (e .shown k) u d h refl eu .same q
+          ∙ sym (ap (λ (z : Bool). z implies receivedIn e k (e .shown k) q) (true-of (k isnt b) (isnt-iff k b .1 f))));
+    }
+
+module _ (e : Estimate) (b k w : ℕ) where
+  pub rest-out-own : k ≡ b → Joined w w (restOne e b k)
+  unfolding restOne _implies_
+  rest-out-own f = record {
+    same = λ q. sym (and-true (within w q))
+        ∙ ap (λ (z : Bool). within w q and z)
+        (sym (ap (λ (z : Bool). z implies receivedIn e k (e .shown k) q) (false-of (k isnt b) (λ t. isnt-iff k b .0 t f))));
   }
 
--- the entries below j are right
-pub record Filled (image : List ℕ) (boxes j : ℕ) (t : List ℕ) : Type 0 where
-  pub size : length t ≡ 512
-  pub each : (i : ℕ) → i < j → Asked (getD t i 0) (nameAsk (estimateOf image) boxes (i / 64) (i % 64))
+pub rest-end : (e : Estimate) (boxes b k w : ℕ) → Through (restOne e b) boxes k w → boxes ≤ k → Asked w (restAsk e boxes b)
+unfolding restAsk
+rest-end e boxes b k w t l = record { same = λ q. t .so-far q ∙ ap (λ (j : ℕ). allBelow j (λ i. restOne e b i q)) (le-antisymm (t .most) l) }
 
-module _ (image : List ℕ) (boxes : ℕ) where
-  pub filled-start : (t : List ℕ) → length t ≡ 512 → Filled image boxes 0 t
-  filled-start t h = record { size = h; each = λ i l. absurd (not-suc-le-zero l) }
+-- where all that other boxes may send is in q, so is what a name asks
+pub rest-asks : (e : Estimate) (boxes b w q a : ℕ) → Asked w (restAsk e boxes b) → T (within w q) → T (nameAsk e boxes b a q)
+unfolding restAsk restOne nameAsk boxesAsk otherAsk facesAsk faceAsk receivedIn
+rest-asks e boxes b w q a r t =
+    let all = all-iff boxes (λ k. restOne e b k q) .0 (of-true (sym (r .same q) ∙ true-of (within w q) t)) in
+    implies-iff (has (e .shown b) a) (boxesAsk e boxes b (e .eps b a) q) .1
+    (λ _. all-iff boxes (λ k. otherAsk e b (e .eps b a) k q) .1
+    (λ k l. implies-iff (k isnt b) (facesAsk e (e .eps b a) k (e .shown k) q) .1
+    (λ other. forEach-iff (e .shown k) (λ c. faceAsk e (e .eps b a) k c q) .1
+    (λ c m u. implies-iff (meets (e .eps b a) (e .eps k c)) (within (e .kap k c) q) .1
+    (λ _. forEach-iff (e .shown k) (λ i. within (e .kap k i) q) .0 (implies-iff (k isnt b) (receivedIn e k (e .shown k) q) .0 (all k l) other) c m u)))))
 
-  pub filled-turn : (j w : ℕ) (t : List ℕ) → Small image boxes → Filled image boxes j t → j < 64 * boxes → Asked w (nameAsk (estimateOf image) boxes (j / 64) (j % 64))
-      → Filled image boxes (j + 1) (set t j w)
-  filled-turn j w t small f h a = record { size = simp length-set (f .size); each = λ i l. pick i l (ℕ-discrete i j) }
-    where
-      pick : (i : ℕ) → i < j + 1 → Dec (i ≡ j) → Asked (getD (set t j w) i 0) (nameAsk (estimateOf image) boxes (i / 64) (i % 64))
-      pick i l (yes z) = rw (z, getD-set-same t j w 0 (omega (arith, f .size, small .few))) a
-      pick i l (no z) = rw (getD-set-other t j i w 0) (f .each i (omega arith))
-
-  pub filled-end : (j : ℕ) (t : List ℕ) → Filled image boxes j t → 64 * boxes ≤ j → Needs image boxes t
-  filled-end j t f h = record {
-    size = f .size;
-    each = λ b l a k.
-        let eb : (64 * b + a) / 64 ≡ b = omega arith in
-        let ea : (64 * b + a) % 64 ≡ a = omega arith in
-        rw (eb, ea) at (f .each (64 * b + a) (omega arith));
-  }
-
-pub ruleset gathers = (needs, fails, holds, walk-less, small-shown, face-in, face-out, gathering-start, gathering-62, gathering-turn, send-in, sent-end, faced-end, faced-stop, typing-start, typing-62, typing-turn, typing-end, types-as, linked-as, other-in, other-out, through-start, through-turn, through-end, sends-at, sending-start, sending-turn, sending-end, shown-62, name-in, name-out, filled-start, filled-turn, filled-end)
+pub ruleset gathers = (needs, fails, holds, walk-less, small-shown, face-in, face-out, gathering-start, gathering-62, gathering-turn, send-in, sent-end, faced-end, faced-stop, typing-start, typing-62, typing-turn, typing-end, types-as, linked-as, other-in, other-out, through-start, through-turn, through-end, sends-at, sending-start, sending-turn, sending-end, filling-start, filling-62, filling-64, filling-turn, filling-end, rest-in-other, rest-out-own, rest-end)

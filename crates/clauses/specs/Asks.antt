@@ -29,9 +29,13 @@ sentIn e b s q = forEach s (λ a. within q (e .kap b a))
 unfoldable pub receivedIn : Estimate → ℕ → ℕ → ℕ → Bool
 receivedIn e b s q = forEach s (λ a. within (e .kap b a) q)
 
--- clause 6: what each a in s asks, as a table has it in word 64 b + a, within q
-unfoldable pub crossedIn : List ℕ → ℕ → ℕ → ℕ → Bool
-crossedIn t b s q = forEach s (λ a. within (getD t (64 * b + a) 0) q)
+-- clause 6: what each a in s asks, as a table has it, within q
+unfoldable pub crossedIn : List ℕ → ℕ → ℕ → Bool
+crossedIn t s q = forEach s (λ a. within (getD t a 0) q)
+
+-- clause 6 cannot be broken where w is all that other boxes may send: w within rho(q) for each q in s
+unfoldable pub sparedIn : Estimate → ℕ → ℕ → Bool
+sparedIn e s w = forEach s (λ q. within w (e .rho q))
 
 -- clause 7: rho(g) within x for each g in s
 unfoldable pub typedIn : Estimate → ℕ → ℕ → Bool
@@ -81,12 +85,19 @@ module _ (e : Estimate) where
   unfoldable pub nameAsk : ℕ → ℕ → ℕ → ℕ → Bool
   nameAsk boxes b a q = has (e .shown b) a implies boxesAsk boxes b (e .eps b a) q
 
+  -- all that box k may send on its shown names is in q, where it is not box b; and so for every box
+  unfoldable pub restOne : ℕ → ℕ → ℕ → Bool
+  restOne b k q = k isnt b implies receivedIn e k (e .shown k) q
+
+  unfoldable pub restAsk : ℕ → ℕ → ℕ → Bool
+  restAsk boxes b q = allBelow boxes (λ k. restOne b k q)
+
 -- a table of all that each box may send on its shown names
 pub record Sends (image : List ℕ) (boxes : ℕ) (t : List ℕ) : Type 0 where
   pub size : length t ≡ 8
   pub each : (k : ℕ) → k < boxes → Asked (getD t k 0) (receivedIn (estimateOf image) k (estimateOf image .shown k))
 
--- a table of what each name of each box asks: 64 words a box
-pub record Needs (image : List ℕ) (boxes : ℕ) (t : List ℕ) : Type 0 where
-  pub size : length t ≡ 512
-  pub each : (b : ℕ) → b < boxes → (a : ℕ) → a < 64 → Asked (getD t (64 * b + a) 0) (nameAsk (estimateOf image) boxes b a)
+-- a table of what each name of box b asks
+pub record Needs (image : List ℕ) (boxes b : ℕ) (t : List ℕ) : Type 0 where
+  pub size : length t ≡ 64
+  pub each : (a : ℕ) → a < 64 → Asked (getD t a 0) (nameAsk (estimateOf image) boxes b a)

@@ -1,10 +1,10 @@
-// What clause 6 asks of rho(q), gathered once for each box and name: a set holds each of several exactly when it holds their union. A box
+// What clause 6 asks of rho(q), gathered once for each name of a box: a set holds each of several exactly when it holds their union. A box
 // is passed once all that it may send is gathered.
 ghost use mathlib.Core.Path.{_≡_};
-ghost use Prim.Native.Nat.{_+_, _*_, _/_, _%_, _<_, _≤_};
-ghost use lib.ListN.{length};
+ghost use Prim.Native.Nat.{_+_, _*_, _<_, _≤_};
+ghost use lib.ListN.{length, getD, replicate};
 ghost use Rattle.definitions.specs.Estimate.{estimateOf};
-ghost use Rattle.clauses.specs.Asks.{Few, Small, receivedIn, Asked, Joined, faceAsk, facesAsk, otherAsk, boxesAsk, nameAsk, Sends, Needs};
+ghost use Rattle.clauses.specs.Asks.{Few, Small, receivedIn, Asked, Joined, faceAsk, facesAsk, otherAsk, boxesAsk, restOne, restAsk, Sends, Needs};
 use sets::NameNo;
 
 // All that box k may send on the names of s.
@@ -23,7 +23,7 @@ fn sent_on(estimate: &[u8], k: usize, s: u64) -> u64
 }
 
 // All that each box may send on its shown names.
-fn sends(estimate: &[u8], boxes: usize) -> [u64; 8]
+pub fn sends(estimate: &[u8], boxes: usize) -> [u64; 8]
     requires { ⌜ Small (now estimate) boxes ⌝ }
     ensures { λ r. ⌜ Sends (now (estimate .entry)) boxes r ⌝ }
 {
@@ -34,6 +34,13 @@ fn sends(estimate: &[u8], boxes: usize) -> [u64; 8]
         i += 1;
     }
     t
+}
+
+fn sent_by(sends: &[u64; 8], k: usize) -> u64
+    requires { ⌜ (length (now sends) ≡ 8) × (k < 8) ⌝ }
+    ensures { λ r. ⌜ r ≡ getD (now (sends .entry)) k 0 ⌝ }
+{
+    sends[k]
 }
 
 // What is gathered so far, with what a site with the type x asks where it faces name c of box k.
@@ -72,7 +79,14 @@ fn other(estimate: &[u8], sends: &[u64; 8], boxes: usize, b: usize, x: u64, k: u
     ensures { λ r. ⌜ Joined r w (otherAsk (estimateOf (now (estimate .entry))) b x k) ⌝ }
 {
     if k != b {
-        faced(estimate, x, k, estimate::shown(estimate, k), sends[k], w)
+        faced(
+            estimate,
+            x,
+            k,
+            estimate::shown(estimate, k),
+            sent_by(sends, k),
+            w,
+        )
     } else {
         w
     }
@@ -92,35 +106,41 @@ fn others(estimate: &[u8], sends: &[u64; 8], boxes: usize, b: usize, x: u64) -> 
     w
 }
 
-// What name a of box b asks: nothing where it is not shown.
-fn need(estimate: &[u8], sends: &[u64; 8], boxes: usize, b: usize, a: NameNo) -> u64
-    requires { ⌜ Small (now estimate) boxes × Sends (now estimate) boxes (now sends) × (b < boxes) × (a .0 < 64) ⌝ }
-    ensures { λ r. ⌜ Asked r (nameAsk (estimateOf (now (estimate .entry))) boxes b (a .0)) ⌝ }
+// The table of what each name of box b asks, put where there are zeros: a name that is not shown asks nothing.
+pub fn needs(estimate: &[u8], sends: &[u64; 8], boxes: usize, b: usize, t: &mut [u64; 64])
+    requires { ⌜ Small (now estimate) boxes × Sends (now estimate) boxes (now sends) × (b < boxes) × (now t ≡ replicate 64 0) ⌝ }
+    ensures { λ r. ⌜ Needs (now (estimate .entry)) boxes b (now (t .exit)) ⌝ }
 {
-    if sets::has(estimate::shown(estimate, b), a) {
-        others(estimate, sends, boxes, b, estimate::eps(estimate, b, a))
+    let mut left = estimate::shown(estimate, b);
+    while left != 0 {
+        let a = sets::first(left);
+        t[a.0 as usize] = others(estimate, sends, boxes, b, estimate::eps(estimate, b, a));
+        left = sets::rest(left);
+    }
+}
+
+// What is gathered so far, with all that box k may send, where it is not box b.
+fn rest_of(estimate: &[u8], sends: &[u64; 8], boxes: usize, b: usize, k: usize, w: u64) -> u64
+    requires { ⌜ Small (now estimate) boxes × Sends (now estimate) boxes (now sends) × (b < boxes) × (k < boxes) ⌝ }
+    ensures { λ r. ⌜ Joined r w (restOne (estimateOf (now (estimate .entry))) b k) ⌝ }
+{
+    if k != b {
+        sets::union(w, sent_by(sends, k))
     } else {
-        0
+        w
     }
 }
 
-// Entry j of the table, of 64 names a box.
-fn entry(estimate: &[u8], sends: &[u64; 8], boxes: usize, j: usize) -> u64
-    requires { ⌜ Small (now estimate) boxes × Sends (now estimate) boxes (now sends) × (j < 64 * boxes) ⌝ }
-    ensures { λ r. ⌜ Asked r (nameAsk (estimateOf (now (estimate .entry))) boxes (j / 64) (j % 64)) ⌝ }
+// All that the boxes other than b may send on their shown names.
+pub fn rest(estimate: &[u8], sends: &[u64; 8], boxes: usize, b: usize) -> u64
+    requires { ⌜ Small (now estimate) boxes × Sends (now estimate) boxes (now sends) × (b < boxes) ⌝ }
+    ensures { λ r. ⌜ Asked r (restAsk (estimateOf (now (estimate .entry))) boxes b) ⌝ }
 {
-    need(estimate, sends, boxes, j / 64, NameNo((j % 64) as u8))
-}
-
-// The table of what each name of each box asks, put where the caller has room for it.
-pub fn needs(estimate: &[u8], boxes: usize, t: &mut [u64; 512])
-    requires { ⌜ Small (now estimate) boxes × (length (now t) ≡ 512) ⌝ }
-    ensures { λ r. ⌜ Needs (now (estimate .entry)) boxes (now (t .exit)) ⌝ }
-{
-    let sends = sends(estimate, boxes);
-    let mut j = 0;
-    while j < 64 * boxes {
-        t[j] = entry(estimate, &sends, boxes, j);
-        j += 1;
+    let mut w: u64 = 0;
+    let mut n = 0;
+    while n < boxes {
+        w = rest_of(estimate, sends, boxes, b, n, w);
+        n += 1;
     }
+    w
 }

@@ -3,7 +3,7 @@ ghost use mathlib.Core.Path.{_≡_};
 ghost use Prim.Native.Nat.{_+_, _*_, _<_, _≤_};
 ghost use lib.ListN.{length, getD};
 ghost use Rattle.definitions.specs.Estimate.{estimateOf};
-ghost use Rattle.clauses.specs.Asks.{Few, sentIn, receivedIn, crossedIn, typedIn};
+ghost use Rattle.clauses.specs.Asks.{Few, sentIn, receivedIn, crossedIn, sparedIn, typedIn};
 use sets::NameNo;
 
 // Clause 4: q within kap(b, a) for each a in s.
@@ -38,15 +38,15 @@ pub fn received(estimate: &[u8], b: usize, s: u64, q: u64) -> bool
     true
 }
 
-// Clause 6: what each a in s asks, by the table of what is asked in box b, is within q.
-pub fn crossed(t: &[u64; 512], b: usize, s: u64, q: u64) -> bool
-    requires { ⌜ (length (now t) ≡ 512) × (b < 8) ⌝ }
-    ensures { λ r. ⌜ r ≡ crossedIn (now (t .entry)) b s q ⌝ }
+// Clause 6: what each a in s asks, by the table of what is asked in its box, is within q.
+pub fn crossed(t: &[u64; 64], s: u64, q: u64) -> bool
+    requires { ⌜ length (now t) ≡ 64 ⌝ }
+    ensures { λ r. ⌜ r ≡ crossedIn (now (t .entry)) s q ⌝ }
 {
     let mut left = s;
     while left != 0 {
         let a = sets::first(left);
-        if !sets::within(asked(t, b, a), q) {
+        if !sets::within(asked(t, a), q) {
             return false;
         }
         left = sets::rest(left);
@@ -54,11 +54,27 @@ pub fn crossed(t: &[u64; 512], b: usize, s: u64, q: u64) -> bool
     true
 }
 
-fn asked(t: &[u64; 512], b: usize, a: NameNo) -> u64
-    requires { ⌜ (b < 8) × (a .0 < 64) ⌝ }
-    ensures { λ r. ⌜ r ≡ getD (now (t .entry)) (64 * b + a .0) 0 ⌝ }
+fn asked(t: &[u64; 64], a: NameNo) -> u64
+    requires { ⌜ (length (now t) ≡ 64) × (a .0 < 64) ⌝ }
+    ensures { λ r. ⌜ r ≡ getD (now (t .entry)) (a .0) 0 ⌝ }
 {
-    t[64 * b + (a.0 as usize)]
+    t[a.0 as usize]
+}
+
+// Clause 6 holds at each input that binds a name of s: all that other boxes may send, w, is within rho of it.
+pub fn spared(estimate: &[u8], s: u64, w: u64) -> bool
+    requires { ⌜ (512 ≤ length (now estimate)) × Few s ⌝ }
+    ensures { λ r. ⌜ r ≡ sparedIn (estimateOf (now (estimate .entry))) s w ⌝ }
+{
+    let mut left = s;
+    while left != 0 {
+        let q = sets::first(left);
+        if !sets::within(w, estimate::rho(estimate, q)) {
+            return false;
+        }
+        left = sets::rest(left);
+    }
+    true
 }
 
 // Clause 7, its type: rho(g) within x for each g in s.

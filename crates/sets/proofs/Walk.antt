@@ -67,15 +67,19 @@ first-below s n h z e = subst (λ (m : ℕ). m < 64) (first-word s h ∙ sym e) 
 pub walk-less : (s t : ℕ) → (s ≡ 0 → ⊥) → RestOf s t → t < s
 walk-less s t z r = r .less (omega arith)
 
+-- another member than the lowest is in the rest
+pub rest-keeps : (s t n : ℕ) → RestOf s t → n ≡ firstOf s → (j : ℕ) → (j ≡ n → ⊥) → T (has s j) → T (has t j)
+rest-keeps s t n r e j k u =
+    of-true (r .members j ∙ true-of (has s j and firstOf s isnt j)
+    (and-iff (has s j) (firstOf s isnt j) .1 (u, isnt-iff (firstOf s) j .1 (λ (l : firstOf s ≡ j). k (sym (e ∙ l))))))
+
 -- what holds of the lowest member and of each member of the rest holds of each member, and back
 rest-each : (s t n : ℕ) → n ≡ firstOf s → RestOf s t → (Q : ℕ → Type 0) → Q n → ((j : ℕ) → T (has t j) → Q j) → (j : ℕ) → T (has s j) → Q j
 rest-each s t n e r Q q f j u = pick (ℕ-discrete n j)
   where
     pick : Dec (n ≡ j) → Q j
     pick (yes k) = subst Q k q
-    pick (no k) =
-        f j (of-true (r .members j ∙ true-of (has s j and firstOf s isnt j)
-        (and-iff (has s j) (firstOf s isnt j) .1 (u, isnt-iff (firstOf s) j .1 (λ (l : firstOf s ≡ j). k (e ∙ l))))))
+    pick (no k) = f j (rest-keeps s t n r e j (λ l. k (sym l)) u)
 
 rest-in : (s t : ℕ) → RestOf s t → (j : ℕ) → T (has t j) → T (has s j)
 rest-in s t r j u = and-iff (has s j) (firstOf s isnt j) .0 (of-true (sym (r .members j) ∙ true-of (has t j) u)) .0

@@ -2,7 +2,7 @@
 ghost use mathlib.Core.Path.{_≡_};
 ghost use mathlib.Core.Bool.{true, not};
 ghost use Prim.Native.Nat.{ℕ, _<_};
-ghost use Rattle.definitions.specs.Bounded.{_or_, _is_, _upto_};
+ghost use Rattle.definitions.specs.Bounded.{_and_, _or_, _is_, _upto_};
 ghost use Rattle.definitions.specs.Sets as names;
 ghost use Rattle.sets.specs.Lowest.{lowestOf, firstOf, RestOf};
 
@@ -89,6 +89,13 @@ pub fn union(a: u64, b: u64) -> u64
     ensures { λ r. ⌜ ((m : ℕ) → names.has r m ≡ (names.has a m or names.has b m)) ⌝ }
 {
     a | b
+}
+
+// The members that s and t share.
+pub fn shared(s: u64, t: u64) -> u64
+    ensures { λ r. ⌜ ((m : ℕ) → names.has r m ≡ (names.has s m and names.has t m)) ⌝ }
+{
+    s & t
 }
 
 // How many members s has.

@@ -9,10 +9,10 @@ use Rattle.analysis.proofs.walks.each_box.Statement.{statement}
 use Rattle.analysis.proofs.walks.each_box.Tie as tie
 
 abbrev Inv-loop : tie.InvT-loop
-Inv-loop model estimate t layout count b₀ b = Passed count (boxBroken (modelOf model) (estimateOf estimate)) b
+Inv-loop model estimate sends layout count b₀ b = Passed count (boxBroken (modelOf model) (estimateOf estimate)) b
 
 abbrev μ-loop : tie.MeasureT-loop
-μ-loop model estimate t layout count b₀ b = count - b
+μ-loop model estimate sends layout count b₀ b = count - b
 
 loop-holds : tie.Need-loop-holds Inv-loop μ-loop
 loop-holds c = search boxes

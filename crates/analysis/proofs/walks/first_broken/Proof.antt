@@ -15,8 +15,8 @@ returns c = search boxes
 enum-told-2 : tie.Need-enum-told-2
 enum-told-2 c = search boxes
 
-needs-requires : tie.Need-needs-requires
-needs-requires c κs = search boxes
+sends-requires : tie.Need-sends-requires
+sends-requires c κs = search boxes
 
 each-box-requires : tie.Need-each-box-requires
 each-box-requires c κs = search boxes
@@ -32,6 +32,6 @@ first-broken-spec =
     enum-told
     returns
     enum-told-2
-    needs-requires
+    sends-requires
     each-box-requires
     returns-2)

@@ -27,6 +27,9 @@ returns c = search boxes
 enum-told-2 : tie.Need-enum-told-2
 enum-told-2 c = search boxes
 
+table-requires : tie.Need-table-requires
+table-requires c κs = search boxes
+
 mul-each-line : tie.Need-mul-each-line
 mul-each-line c = search boxes
 
@@ -51,6 +54,7 @@ one-box-spec =
     enum-told
     returns
     enum-told-2
+    table-requires
     mul-each-line
     array-read-each-line
     each-line-requires

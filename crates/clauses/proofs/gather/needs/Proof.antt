@@ -1,26 +1,31 @@
--- `clauses::gather::needs` meets its contract: the entries passed are right. Assumes nothing.
-use Prim.Native.Nat.{_-_, _*_}
-use Rattle.clauses.proofs.Unions.{Filled, gathers}
+-- `clauses::gather::needs` meets its contract: the names passed are right. Assumes nothing.
+use Rattle.clauses.proofs.Unions.{Filling, gathers}
 use Rattle.clauses.proofs.gather.needs.Statement.{statement}
 use Rattle.clauses.proofs.gather.needs.Tie as tie
 
 abbrev Inv-loop : tie.InvT-loop
-Inv-loop estimate boxes t₀ sends j₀ t j = Filled estimate boxes j t
+Inv-loop estimate sends boxes b t₀ left₀ t left = Filling estimate boxes b left t
 
 abbrev μ-loop : tie.MeasureT-loop
-μ-loop estimate boxes t₀ sends j₀ t j = 64 * boxes - j
+μ-loop estimate sends boxes b t₀ left₀ t left = left
 
-sends-requires : tie.Need-sends-requires Inv-loop μ-loop
-sends-requires c κs = search gathers
+shown-requires : tie.Need-shown-requires Inv-loop μ-loop
+shown-requires c κs = search gathers
 
 loop-holds : tie.Need-loop-holds Inv-loop μ-loop
 loop-holds c = search gathers
 
-mul-loop : tie.Need-mul-loop Inv-loop μ-loop
-mul-loop c = search gathers
+first-requires : tie.Need-first-requires Inv-loop μ-loop
+first-requires c κs = search gathers
 
-entry-requires : tie.Need-entry-requires Inv-loop μ-loop
-entry-requires c κs = search gathers
+eps-requires : tie.Need-eps-requires Inv-loop μ-loop
+eps-requires c κs = search gathers
+
+others-requires : tie.Need-others-requires Inv-loop μ-loop
+others-requires c κs = search gathers
+
+cast-t : tie.Need-cast-t Inv-loop μ-loop
+cast-t c = search gathers
 
 mul-t : tie.Need-mul-t Inv-loop μ-loop
 mul-t c = search gathers
@@ -28,8 +33,8 @@ mul-t c = search gathers
 element-write-t : tie.Need-element-write-t Inv-loop μ-loop
 element-write-t c = search gathers
 
-add-j : tie.Need-add-j Inv-loop μ-loop
-add-j c = search gathers
+rest-requires : tie.Need-rest-requires Inv-loop μ-loop
+rest-requires c κs = search gathers
 
 loop-less : tie.Need-loop-less Inv-loop μ-loop
 loop-less c = search gathers
@@ -46,13 +51,15 @@ needs-spec =
     (tie.spec
     Inv-loop
     μ-loop
-    sends-requires
+    shown-requires
     loop-holds
-    mul-loop
-    entry-requires
+    first-requires
+    eps-requires
+    others-requires
+    cast-t
     mul-t
     element-write-t
-    add-j
+    rest-requires
     loop-less
     loop-again
     returns)

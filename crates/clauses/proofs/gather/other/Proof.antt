@@ -6,11 +6,8 @@ use Rattle.clauses.proofs.gather.other.Tie as tie
 shown-requires : tie.Need-shown-requires
 shown-requires c κs = search gathers
 
-mul-faced : tie.Need-mul-faced
-mul-faced c = search gathers
-
-element-copy-out-faced : tie.Need-element-copy-out-faced
-element-copy-out-faced c = search gathers
+sent-by-requires : tie.Need-sent-by-requires
+sent-by-requires c κs = search gathers
 
 faced-requires : tie.Need-faced-requires
 faced-requires c κs = search gathers
@@ -22,6 +19,4 @@ returns-2 : tie.Need-returns-2
 returns-2 c = search gathers
 
 pub other-spec : {M : Type 1} → statement M
-other-spec =
-    tie.close
-    (tie.spec shown-requires mul-faced element-copy-out-faced faced-requires returns returns-2)
+other-spec = tie.close (tie.spec shown-requires sent-by-requires faced-requires returns returns-2)

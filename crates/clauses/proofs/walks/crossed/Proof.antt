@@ -1,5 +1,4 @@
 -- `clauses::walks::crossed` meets its contract: the members left give the answer. Assumes nothing.
-use Prim.Native.Nat.{_+_, _*_}
 use lib.ListN.{getD}
 use Rattle.definitions.specs.Sets.{within}
 use Rattle.sets.proofs.Walk.{EachLeft}
@@ -9,10 +8,10 @@ use Rattle.clauses.proofs.walks.crossed.Statement.{statement}
 use Rattle.clauses.proofs.walks.crossed.Tie as tie
 
 abbrev Inv-loop : tie.InvT-loop
-Inv-loop t b s q left₀ left = EachLeft (λ a. within (getD t (64 * b + a) 0) q) s left
+Inv-loop t s q left₀ left = EachLeft (λ a. within (getD t a 0) q) s left
 
 abbrev μ-loop : tie.MeasureT-loop
-μ-loop t b s q left₀ left = left
+μ-loop t s q left₀ left = left
 
 loop-holds : tie.Need-loop-holds Inv-loop μ-loop
 loop-holds c = search walks
