@@ -119,13 +119,13 @@ pub fn needs(estimate: &[u8], sends: &[u64; 8], boxes: usize, b: usize, t: &mut 
     }
 }
 
-// What is gathered so far, with all that box k may send, where it is not box b.
-fn rest_of(estimate: &[u8], sends: &[u64; 8], boxes: usize, b: usize, k: usize, w: u64) -> u64
-    requires { ⌜ Small (now estimate) boxes × Sends (now estimate) boxes (now sends) × (b < boxes) × (k < boxes) ⌝ }
-    ensures { λ r. ⌜ Joined r w (restOne (estimateOf (now (estimate .entry))) b k) ⌝ }
+// What is gathered so far, with all that box n may send, where it is not box b.
+fn rest_of(estimate: &[u8], sends: &[u64; 8], boxes: usize, b: usize, n: usize, w: u64) -> u64
+    requires { ⌜ Small (now estimate) boxes × Sends (now estimate) boxes (now sends) × (b < boxes) × (n < boxes) ⌝ }
+    ensures { λ r. ⌜ Joined r w (restOne (estimateOf (now (estimate .entry))) b n) ⌝ }
 {
-    if k != b {
-        sets::union(w, sent_by(sends, k))
+    if n != b {
+        sets::union(w, sent_by(sends, n))
     } else {
         w
     }
