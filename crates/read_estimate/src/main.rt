@@ -2,30 +2,17 @@
 // line of its refusal.
 ghost use Prim.Native.Nat.{_+_, _*_, _<_, _≤_};
 ghost use lib.ListN.{length};
-use libc::STDOUT_FILENO;
 use model::Answer;
+use programs::end_line;
+use programs::number;
+use programs::set;
+use programs::write;
 use sets::NameNo;
 
-fn number(n: u64) {
-    io::write_all(STDOUT_FILENO, b" ");
-    io::print_decimal(STDOUT_FILENO, n);
-}
-
-fn set(s: u64) {
-    io::write_all(STDOUT_FILENO, b" {");
-    let mut some = false;
-    let mut n: u8 = 0;
-    while n < 64 {
-        if sets::has(s, NameNo(n)) {
-            if some {
-                io::write_all(STDOUT_FILENO, b",");
-            }
-            io::print_decimal(STDOUT_FILENO, n as u64);
-            some = true;
-        }
-        n += 1;
-    }
-    io::write_all(STDOUT_FILENO, b"}\n");
+// A set, and the end of its line.
+fn last_set(s: u64) {
+    set(s);
+    end_line();
 }
 
 fn rhos(image: &[u8], names: u8)
@@ -33,9 +20,9 @@ fn rhos(image: &[u8], names: u8)
 {
     let mut n: u8 = 0;
     while n < names {
-        io::write_all(STDOUT_FILENO, b"rho");
+        write(b"rho");
         number(n as u64);
-        set(estimate::rho(image, NameNo(n)));
+        last_set(estimate::rho(image, NameNo(n)));
         n += 1;
     }
 }
@@ -45,10 +32,10 @@ fn epss(image: &[u8], names: u8, b: usize)
 {
     let mut n: u8 = 0;
     while n < names {
-        io::write_all(STDOUT_FILENO, b"eps");
+        write(b"eps");
         number(b as u64);
         number(n as u64);
-        set(estimate::eps(image, b, NameNo(n)));
+        last_set(estimate::eps(image, b, NameNo(n)));
         n += 1;
     }
 }
@@ -58,10 +45,10 @@ fn kaps(image: &[u8], names: u8, b: usize)
 {
     let mut n: u8 = 0;
     while n < names {
-        io::write_all(STDOUT_FILENO, b"kap");
+        write(b"kap");
         number(b as u64);
         number(n as u64);
-        set(estimate::kap(image, b, NameNo(n)));
+        last_set(estimate::kap(image, b, NameNo(n)));
         n += 1;
     }
 }
@@ -69,12 +56,12 @@ fn kaps(image: &[u8], names: u8, b: usize)
 fn one_box(image: &[u8], names: u8, b: usize)
     requires { ⌜ (512 * (3 + 2 * b) ≤ length (now image)) × (names ≤ 60) × (b < 8) ⌝ }
 {
-    io::write_all(STDOUT_FILENO, b"shown");
+    write(b"shown");
     number(b as u64);
-    set(estimate::shown(image, b));
-    io::write_all(STDOUT_FILENO, b"hidden");
+    last_set(estimate::shown(image, b));
+    write(b"hidden");
     number(b as u64);
-    set(estimate::hidden(image, b));
+    last_set(estimate::hidden(image, b));
     epss(image, names, b);
     kaps(image, names, b);
 }
@@ -91,11 +78,11 @@ fn all(image: &[u8], names: u8, boxes: usize)
 }
 
 fn refused(image: &[u8], number_of: u8, place: usize, second: usize) {
-    io::write_all(STDOUT_FILENO, image);
+    write(image);
     number(number_of as u64);
     number(place as u64);
     number(second as u64);
-    io::write_all(STDOUT_FILENO, b"\n");
+    end_line();
 }
 
 fn show(image: &[u8], names: usize, boxes: usize) {
@@ -123,25 +110,13 @@ fn pair(model: &[u8], image: &[u8]) {
     }
 }
 
-fn load(path: &[u8], buffer: &mut [u8]) -> usize
-    ensures { λ r. ⌜ r ≤ length (now (buffer .exit)) ⌝ }
-{
-    let file = os::open_read(path);
-    if file < 0 {
-        return 0;
-    }
-    let n = io::read_full(file, &mut *buffer);
-    libc::close(file);
-    n
-}
-
 fn one(digit: u8) {
     let model = [digit, b'.', b'm', b'o', b'd', b'e', b'l'];
     let image = [digit, b'.', b'e', b's', b't', b'i', b'm', b'a', b't', b'e'];
-    let mut first = [0u8; 20993];
-    let mut second = [0u8; 8705];
-    let m = load(&model, &mut first);
-    let e = load(&image, &mut second);
+    let mut first = programs::model_buffer();
+    let mut second = programs::estimate_buffer();
+    let m = programs::load(&model, &mut first);
+    let e = programs::load(&image, &mut second);
     pair(&first[..m], &second[..e]);
 }
 

@@ -5,64 +5,37 @@ ghost use Prim.Native.Nat.{_<_};
 ghost use Rattle.definitions.specs.ReadModel.{readModel};
 ghost use Rattle.model.specs.Parts.{LinesAt, SitesAt};
 ghost use Rattle.model.specs.Holds.{Holds};
-use libc::STDOUT_FILENO;
 use model::Answer;
 use model::Layout;
 use model::Line;
 use model::Site;
+use programs::end_line;
+use programs::number;
+use programs::set;
+use programs::write;
 use sets::NameNo;
 
-fn number(n: u64) {
-    io::write_all(STDOUT_FILENO, b" ");
-    io::print_decimal(STDOUT_FILENO, n);
-}
-
-fn wide(n: u8) -> u64 {
-    n as u64
-}
-
-fn place(n: usize) -> u64 {
-    n as u64
-}
-
-fn set(s: u64) {
-    io::write_all(STDOUT_FILENO, b" {");
-    let mut some = false;
-    let mut n: u8 = 0;
-    while n < 64 {
-        if sets::has(s, NameNo(n)) {
-            if some {
-                io::write_all(STDOUT_FILENO, b",");
-            }
-            io::print_decimal(STDOUT_FILENO, wide(n));
-            some = true;
-        }
-        n += 1;
-    }
-    io::write_all(STDOUT_FILENO, b"}");
-}
-
 fn show_site(b: usize, i: usize, s: Site) {
-    io::write_all(STDOUT_FILENO, b"site");
-    number(place(b));
-    number(place(i));
-    number(wide(s.subject.0));
-    number(wide(s.flag));
+    write(b"site");
+    number(b as u64);
+    number(i as u64);
+    number(s.subject.0 as u64);
+    number(s.flag as u64);
     set(s.names);
-    io::write_all(STDOUT_FILENO, b"\n");
+    end_line();
 }
 
 fn show_line(b: usize, i: usize, l: Line) {
-    io::write_all(STDOUT_FILENO, b"line");
-    number(place(b));
-    number(place(i));
-    number(wide(l.op));
-    number(wide(l.name1.0));
-    number(wide(l.name2.0));
-    number(place(l.child1));
-    number(place(l.child2));
+    write(b"line");
+    number(b as u64);
+    number(i as u64);
+    number(l.op as u64);
+    number(l.name1.0 as u64);
+    number(l.name2.0 as u64);
+    number(l.child1 as u64);
+    number(l.child2 as u64);
     set(l.names);
-    io::write_all(STDOUT_FILENO, b"\n");
+    end_line();
 }
 
 fn show_sites(image: &[u8], b: usize, k: usize, n: usize)
@@ -94,13 +67,13 @@ fn show_box(image: &[u8], l: Layout, b: usize)
     let k = at[b];
     let few = sites[b];
     let n = lines[b];
-    io::write_all(STDOUT_FILENO, b"box");
-    number(place(b));
-    io::write_all(STDOUT_FILENO, b" sites");
-    number(place(few));
-    io::write_all(STDOUT_FILENO, b" lines");
-    number(place(n));
-    io::write_all(STDOUT_FILENO, b"\n");
+    write(b"box");
+    number(b as u64);
+    write(b" sites");
+    number(few as u64);
+    write(b" lines");
+    number(n as u64);
+    end_line();
     show_sites(image, b, k, few);
     show_lines(image, b, k, n);
 }
@@ -109,9 +82,9 @@ fn show_boxes(image: &[u8], l: Layout)
     requires { ⌜ (readModel (now image) ≡ none) × Holds (now image) l ⌝ }
 {
     let boxes = l.boxes;
-    io::write_all(STDOUT_FILENO, b"boxes");
-    number(place(boxes));
-    io::write_all(STDOUT_FILENO, b"\n");
+    write(b"boxes");
+    number(boxes as u64);
+    end_line();
     let mut b = 0;
     while b < boxes {
         show_box(image, l, b);
@@ -123,16 +96,16 @@ fn show_names(image: &[u8], l: Layout)
     requires { ⌜ (readModel (now image) ≡ none) × Holds (now image) l ⌝ }
 {
     let names = l.names;
-    io::write_all(STDOUT_FILENO, b"names");
-    number(place(names));
-    io::write_all(STDOUT_FILENO, b"\n");
+    write(b"names");
+    number(names as u64);
+    end_line();
     let mut n = 0;
     while n < names {
         let kind = model::views::kind(image, NameNo(n as u8));
-        io::write_all(STDOUT_FILENO, b"name");
-        number(place(n));
+        write(b"name");
+        number(n as u64);
         number(kind);
-        io::write_all(STDOUT_FILENO, b"\n");
+        end_line();
         n += 1;
     }
 }
@@ -147,26 +120,20 @@ fn show(image: &[u8]) {
             show_boxes(image, l);
         }
         Answer::Refused(x) => {
-            io::write_all(STDOUT_FILENO, b"refused model");
-            number(wide(x.number));
-            number(place(x.place));
-            number(place(x.second));
-            io::write_all(STDOUT_FILENO, b"\n");
+            write(b"refused model");
+            number(x.number as u64);
+            number(x.place as u64);
+            number(x.second as u64);
+            end_line();
         }
     }
 }
 
 fn file(path: &[u8]) {
-    let fd = os::open_read(path);
-    if fd < 0 {
-        os::fail(path);
-        return;
-    }
-    let mut buffer = io::large_buffer();
-    let n = io::read_full(fd, &mut buffer);
-    libc::close(fd);
-    io::write_all(STDOUT_FILENO, path);
-    io::write_all(STDOUT_FILENO, b"\n");
+    let mut buffer = programs::model_buffer();
+    let n = programs::load(path, &mut buffer);
+    write(path);
+    end_line();
     show(&buffer[..n]);
 }
 

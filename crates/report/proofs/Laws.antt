@@ -5,7 +5,7 @@ use Prim.Native.Nat.{ℕ, _+_, _≤_}
 use native.Mathlib.Omega.{arith}
 use borrow.Author.Needs.{needs}
 use lib.ListN.{length}
-use Rattle.definitions.specs.Program.{decimalIn, threeNumbers, acceptedWord, clauseWord, refusedModelWords, refusedEstimateWords, lineOf}
+use Rattle.definitions.specs.Program.{bytesOf, decimalIn, threeNumbers, lineOf}
 use Rattle.model.specs.declared.Refusal.{Refusal}
 use Rattle.analysis.specs.declared.Broken.{Broken}
 use Rattle.analysis.specs.declared.Verdict.{Verdict}
@@ -19,7 +19,7 @@ pub three-done : (t n₁ b₁ n₂ b₂ n₃ b₃ : Text) (a b c : ℕ) → Read
     → Reads (textOf n₁ ++ (32 ∷ [])) (n₁ .len + 1) b₁ → Reads (textOf b₁ ++ decimalIn 20 b) (b₁ .len + 20) n₂
     → Reads (textOf n₂ ++ (32 ∷ [])) (n₂ .len + 1) b₂ → Reads (textOf b₂ ++ decimalIn 20 c) (b₂ .len + 20) n₃
     → Reads (textOf n₃ ++ (10 ∷ [])) (n₃ .len + 1) b₃ → Reads (textOf t ++ threeNumbers a b c) (t .len + 63) b₃
-unfolding threeNumbers
+unfolding threeNumbers bytesOf
 three-done t n₁ b₁ n₂ b₂ n₃ b₃ a b c q₁ r₁ q₂ r₂ q₃ r₃ = record {
   text = r₃ .text ∙ rw (q₃ .text, r₂ .text, q₂ .text, r₁ .text, q₁ .text) (simp append-assoc);
   size = omega (arith, q₁ .size, r₁ .size, q₂ .size, r₂ .size, q₃ .size, r₃ .size);
@@ -44,18 +44,18 @@ word-three e t u w v x a b c q l r s z k = record {
 }
 
 -- the line of each verdict
-pub line-accepted : (v : Verdict) → v ≡ Accepted → lineOf (verdictIn v) ≡ acceptedWord
+pub line-accepted : (v : Verdict) → v ≡ Accepted → lineOf (verdictIn v) ≡ bytesOf "accepted\n"
 unfolding lineOf
 line-accepted v k = ap (λ (x : Verdict). lineOf (verdictIn x)) k
 
-pub line-breaks : (v : Verdict) (x : Broken) → v ≡ Breaks x → lineOf (verdictIn v) ≡ clauseWord ++ threeNumbers (x .clause) (x .boxno) (x .place)
+pub line-breaks : (v : Verdict) (x : Broken) → v ≡ Breaks x → lineOf (verdictIn v) ≡ bytesOf "clause " ++ threeNumbers (x .clause) (x .boxno) (x .place)
 unfolding lineOf
 line-breaks v x k = ap (λ (y : Verdict). lineOf (verdictIn y)) k
 
-pub line-model : (v : Verdict) (x : Refusal) → v ≡ RefusedModel x → lineOf (verdictIn v) ≡ refusedModelWords ++ threeNumbers (x .number) (x .place) (x .second)
+pub line-model : (v : Verdict) (x : Refusal) → v ≡ RefusedModel x → lineOf (verdictIn v) ≡ bytesOf "refused model " ++ threeNumbers (x .number) (x .place) (x .second)
 unfolding lineOf
 line-model v x k = ap (λ (y : Verdict). lineOf (verdictIn y)) k
 
-pub line-estimate : (v : Verdict) (x : Refusal) → v ≡ RefusedEstimate x → lineOf (verdictIn v) ≡ refusedEstimateWords ++ threeNumbers (x .number) (x .place) (x .second)
+pub line-estimate : (v : Verdict) (x : Refusal) → v ≡ RefusedEstimate x → lineOf (verdictIn v) ≡ bytesOf "refused estimate " ++ threeNumbers (x .number) (x .place) (x .second)
 unfolding lineOf
 line-estimate v x k = ap (λ (y : Verdict). lineOf (verdictIn y)) k

@@ -1,4 +1,4 @@
--- `files::report` meets its contract: what is read and written is a part of its buffer. Assumes nothing.
+-- `files::report` meets its contract: what is written is a part of its buffer. Assumes nothing.
 use native.Mathlib.Omega.{arith}
 use borrow.Author.Needs.{needs}
 use lib.ListN.{length-take}
@@ -14,11 +14,11 @@ line-requires c κs = search needs
 array-share-prefix-bytes : tie.Need-array-share-prefix-bytes
 array-share-prefix-bytes c = search needs
 
-slice-aggregate-write-all : tie.Need-slice-aggregate-write-all
-slice-aggregate-write-all c = simp length-take (omega arith)
+slice-aggregate-write : tie.Need-slice-aggregate-write
+slice-aggregate-write c = simp length-take (omega arith)
 
-write-all-requires : tie.Need-write-all-requires
-write-all-requires c κs = search needs
+write-requires : tie.Need-write-requires
+write-requires c κs = search needs
 
 returns : tie.Need-returns
 returns c = search needs
@@ -30,6 +30,6 @@ report-spec =
     check-requires
     line-requires
     array-share-prefix-bytes
-    slice-aggregate-write-all
-    write-all-requires
+    slice-aggregate-write
+    write-requires
     returns)

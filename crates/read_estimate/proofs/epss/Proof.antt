@@ -13,11 +13,11 @@ abbrev μ-loop : tie.MeasureT-loop
 loop-holds : tie.Need-loop-holds Inv-loop μ-loop
 loop-holds c = search needs
 
-slice-aggregate-write-all : tie.Need-slice-aggregate-write-all Inv-loop μ-loop
-slice-aggregate-write-all c = search needs
+slice-aggregate-write : tie.Need-slice-aggregate-write Inv-loop μ-loop
+slice-aggregate-write c = search needs
 
-write-all-requires : tie.Need-write-all-requires Inv-loop μ-loop
-write-all-requires c κs = search needs
+write-requires : tie.Need-write-requires Inv-loop μ-loop
+write-requires c κs = search needs
 
 number-requires : tie.Need-number-requires Inv-loop μ-loop
 number-requires c κs = search needs
@@ -31,8 +31,8 @@ number-requires-2 c κs = search needs
 eps-requires : tie.Need-eps-requires Inv-loop μ-loop
 eps-requires c κs = search needs
 
-set-requires : tie.Need-set-requires Inv-loop μ-loop
-set-requires c κs = search needs
+last-set-requires : tie.Need-last-set-requires Inv-loop μ-loop
+last-set-requires c κs = search needs
 
 add-n : tie.Need-add-n Inv-loop μ-loop
 add-n c = search needs
@@ -53,13 +53,13 @@ epss-spec =
     Inv-loop
     μ-loop
     loop-holds
-    slice-aggregate-write-all
-    write-all-requires
+    slice-aggregate-write
+    write-requires
     number-requires
     cast-number
     number-requires-2
     eps-requires
-    set-requires
+    last-set-requires
     add-n
     loop-less
     loop-again

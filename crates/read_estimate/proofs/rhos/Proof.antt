@@ -13,11 +13,11 @@ abbrev μ-loop : tie.MeasureT-loop
 loop-holds : tie.Need-loop-holds Inv-loop μ-loop
 loop-holds c = search needs
 
-slice-aggregate-write-all : tie.Need-slice-aggregate-write-all Inv-loop μ-loop
-slice-aggregate-write-all c = search needs
+slice-aggregate-write : tie.Need-slice-aggregate-write Inv-loop μ-loop
+slice-aggregate-write c = search needs
 
-write-all-requires : tie.Need-write-all-requires Inv-loop μ-loop
-write-all-requires c κs = search needs
+write-requires : tie.Need-write-requires Inv-loop μ-loop
+write-requires c κs = search needs
 
 cast-number : tie.Need-cast-number Inv-loop μ-loop
 cast-number c = search needs
@@ -28,8 +28,8 @@ number-requires c κs = search needs
 rho-requires : tie.Need-rho-requires Inv-loop μ-loop
 rho-requires c κs = search needs
 
-set-requires : tie.Need-set-requires Inv-loop μ-loop
-set-requires c κs = search needs
+last-set-requires : tie.Need-last-set-requires Inv-loop μ-loop
+last-set-requires c κs = search needs
 
 add-n : tie.Need-add-n Inv-loop μ-loop
 add-n c = search needs
@@ -50,12 +50,12 @@ rhos-spec =
     Inv-loop
     μ-loop
     loop-holds
-    slice-aggregate-write-all
-    write-all-requires
+    slice-aggregate-write
+    write-requires
     cast-number
     number-requires
     rho-requires
-    set-requires
+    last-set-requires
     add-n
     loop-less
     loop-again

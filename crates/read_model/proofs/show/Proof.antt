@@ -18,35 +18,26 @@ show-boxes-requires c κs = search shown
 enum-known-a : tie.Need-enum-known-a
 enum-known-a c = search shown
 
-slice-aggregate-write-all : tie.Need-slice-aggregate-write-all
-slice-aggregate-write-all c = search shown
+slice-aggregate-write : tie.Need-slice-aggregate-write
+slice-aggregate-write c = search shown
 
-write-all-requires : tie.Need-write-all-requires
-write-all-requires c κs = search shown
+write-requires : tie.Need-write-requires
+write-requires c κs = search shown
 
-wide-requires : tie.Need-wide-requires
-wide-requires c κs = search shown
+cast-number : tie.Need-cast-number
+cast-number c = search shown
 
 number-requires : tie.Need-number-requires
 number-requires c κs = search shown
 
-place-requires : tie.Need-place-requires
-place-requires c κs = search shown
-
 number-requires-2 : tie.Need-number-requires-2
 number-requires-2 c κs = search shown
-
-place-requires-2 : tie.Need-place-requires-2
-place-requires-2 c κs = search shown
 
 number-requires-3 : tie.Need-number-requires-3
 number-requires-3 c κs = search shown
 
-slice-aggregate-write-all-2 : tie.Need-slice-aggregate-write-all-2
-slice-aggregate-write-all-2 c = search shown
-
-write-all-requires-2 : tie.Need-write-all-requires-2
-write-all-requires-2 c κs = search shown
+end-line-requires : tie.Need-end-line-requires
+end-line-requires c κs = search shown
 
 returns : tie.Need-returns
 returns c = search shown
@@ -63,15 +54,12 @@ show-spec =
     show-names-requires
     show-boxes-requires
     enum-known-a
-    slice-aggregate-write-all
-    write-all-requires
-    wide-requires
+    slice-aggregate-write
+    write-requires
+    cast-number
     number-requires
-    place-requires
     number-requires-2
-    place-requires-2
     number-requires-3
-    slice-aggregate-write-all-2
-    write-all-requires-2
+    end-line-requires
     returns
     returns-2)

@@ -21,47 +21,35 @@ mul-n c = search shown
 array-read-n : tie.Need-array-read-n
 array-read-n c = search shown
 
-slice-aggregate-write-all : tie.Need-slice-aggregate-write-all
-slice-aggregate-write-all c = search shown
+slice-aggregate-write : tie.Need-slice-aggregate-write
+slice-aggregate-write c = search shown
 
-write-all-requires : tie.Need-write-all-requires
-write-all-requires c κs = search shown
-
-place-requires : tie.Need-place-requires
-place-requires c κs = search shown
+write-requires : tie.Need-write-requires
+write-requires c κs = search shown
 
 number-requires : tie.Need-number-requires
 number-requires c κs = search shown
 
-slice-aggregate-write-all-2 : tie.Need-slice-aggregate-write-all-2
-slice-aggregate-write-all-2 c = search shown
+slice-aggregate-write-2 : tie.Need-slice-aggregate-write-2
+slice-aggregate-write-2 c = search shown
 
-write-all-requires-2 : tie.Need-write-all-requires-2
-write-all-requires-2 c κs = search shown
-
-place-requires-2 : tie.Need-place-requires-2
-place-requires-2 c κs = search shown
+write-requires-2 : tie.Need-write-requires-2
+write-requires-2 c κs = search shown
 
 number-requires-2 : tie.Need-number-requires-2
 number-requires-2 c κs = search shown
 
-slice-aggregate-write-all-3 : tie.Need-slice-aggregate-write-all-3
-slice-aggregate-write-all-3 c = search shown
+slice-aggregate-write-3 : tie.Need-slice-aggregate-write-3
+slice-aggregate-write-3 c = search shown
 
-write-all-requires-3 : tie.Need-write-all-requires-3
-write-all-requires-3 c κs = search shown
-
-place-requires-3 : tie.Need-place-requires-3
-place-requires-3 c κs = search shown
+write-requires-3 : tie.Need-write-requires-3
+write-requires-3 c κs = search shown
 
 number-requires-3 : tie.Need-number-requires-3
 number-requires-3 c κs = search shown
 
-slice-aggregate-write-all-4 : tie.Need-slice-aggregate-write-all-4
-slice-aggregate-write-all-4 c = search shown
-
-write-all-requires-4 : tie.Need-write-all-requires-4
-write-all-requires-4 c κs = search shown
+end-line-requires : tie.Need-end-line-requires
+end-line-requires c κs = search shown
 
 show-sites-requires : tie.Need-show-sites-requires
 show-sites-requires c κs = search shown
@@ -82,20 +70,16 @@ show-box-spec =
     array-read-few
     mul-n
     array-read-n
-    slice-aggregate-write-all
-    write-all-requires
-    place-requires
+    slice-aggregate-write
+    write-requires
     number-requires
-    slice-aggregate-write-all-2
-    write-all-requires-2
-    place-requires-2
+    slice-aggregate-write-2
+    write-requires-2
     number-requires-2
-    slice-aggregate-write-all-3
-    write-all-requires-3
-    place-requires-3
+    slice-aggregate-write-3
+    write-requires-3
     number-requires-3
-    slice-aggregate-write-all-4
-    write-all-requires-4
+    end-line-requires
     show-sites-requires
     show-lines-requires
     returns)

@@ -10,23 +10,17 @@ Inv-loop image l boxes b₀ b = b ≤ boxes
 abbrev μ-loop : tie.MeasureT-loop
 μ-loop image l boxes b₀ b = boxes - b
 
-slice-aggregate-write-all : tie.Need-slice-aggregate-write-all Inv-loop μ-loop
-slice-aggregate-write-all c = search shown
+slice-aggregate-write : tie.Need-slice-aggregate-write Inv-loop μ-loop
+slice-aggregate-write c = search shown
 
-write-all-requires : tie.Need-write-all-requires Inv-loop μ-loop
-write-all-requires c κs = search shown
-
-place-requires : tie.Need-place-requires Inv-loop μ-loop
-place-requires c κs = search shown
+write-requires : tie.Need-write-requires Inv-loop μ-loop
+write-requires c κs = search shown
 
 number-requires : tie.Need-number-requires Inv-loop μ-loop
 number-requires c κs = search shown
 
-slice-aggregate-write-all-2 : tie.Need-slice-aggregate-write-all-2 Inv-loop μ-loop
-slice-aggregate-write-all-2 c = search shown
-
-write-all-requires-2 : tie.Need-write-all-requires-2 Inv-loop μ-loop
-write-all-requires-2 c κs = search shown
+end-line-requires : tie.Need-end-line-requires Inv-loop μ-loop
+end-line-requires c κs = search shown
 
 loop-holds : tie.Need-loop-holds Inv-loop μ-loop
 loop-holds c = search shown
@@ -52,12 +46,10 @@ show-boxes-spec =
     (tie.spec
     Inv-loop
     μ-loop
-    slice-aggregate-write-all
-    write-all-requires
-    place-requires
+    slice-aggregate-write
+    write-requires
     number-requires
-    slice-aggregate-write-all-2
-    write-all-requires-2
+    end-line-requires
     loop-holds
     show-box-requires
     add-b

@@ -5,48 +5,39 @@ use Rattle.read_model.proofs.show_names.Statement.{statement}
 use Rattle.read_model.proofs.show_names.Tie as tie
 
 abbrev Inv-loop : tie.InvT-loop
-Inv-loop image names n₀ t8 t9 n = n ≤ names
+Inv-loop image names n₀ t7 n = n ≤ names
 
 abbrev μ-loop : tie.MeasureT-loop
-μ-loop image names n₀ t8 t9 n = names - n
+μ-loop image names n₀ t7 n = names - n
 
-slice-aggregate-write-all : tie.Need-slice-aggregate-write-all Inv-loop μ-loop
-slice-aggregate-write-all c = search shown
+slice-aggregate-write : tie.Need-slice-aggregate-write Inv-loop μ-loop
+slice-aggregate-write c = search shown
 
-write-all-requires : tie.Need-write-all-requires Inv-loop μ-loop
-write-all-requires c κs = search shown
-
-place-requires : tie.Need-place-requires Inv-loop μ-loop
-place-requires c κs = search shown
+write-requires : tie.Need-write-requires Inv-loop μ-loop
+write-requires c κs = search shown
 
 number-requires : tie.Need-number-requires Inv-loop μ-loop
 number-requires c κs = search shown
 
-slice-aggregate-write-all-2 : tie.Need-slice-aggregate-write-all-2 Inv-loop μ-loop
-slice-aggregate-write-all-2 c = search shown
-
-write-all-requires-2 : tie.Need-write-all-requires-2 Inv-loop μ-loop
-write-all-requires-2 c κs = search shown
+end-line-requires : tie.Need-end-line-requires Inv-loop μ-loop
+end-line-requires c κs = search shown
 
 loop-holds : tie.Need-loop-holds Inv-loop μ-loop
 loop-holds c = search shown
 
-cast-t18 : tie.Need-cast-t18 Inv-loop μ-loop
-cast-t18 c =
-    let start = c .before .before .before .before .before .before .before .before .before in
+cast-t13 : tie.Need-cast-t13 Inv-loop μ-loop
+cast-t13 c =
+    let start = c .before .before .before .before .before .before .before in
     name-fits _ _ (start .pre .0) (start .pre .1) _ (c .loop-test .taken)
 
 kind-requires : tie.Need-kind-requires Inv-loop μ-loop
 kind-requires c κs = search shown
 
-slice-aggregate-write-all-3 : tie.Need-slice-aggregate-write-all-3 Inv-loop μ-loop
-slice-aggregate-write-all-3 c = search shown
+slice-aggregate-write-2 : tie.Need-slice-aggregate-write-2 Inv-loop μ-loop
+slice-aggregate-write-2 c = search shown
 
-write-all-requires-3 : tie.Need-write-all-requires-3 Inv-loop μ-loop
-write-all-requires-3 c κs = search shown
-
-place-requires-2 : tie.Need-place-requires-2 Inv-loop μ-loop
-place-requires-2 c κs = search shown
+write-requires-2 : tie.Need-write-requires-2 Inv-loop μ-loop
+write-requires-2 c κs = search shown
 
 number-requires-2 : tie.Need-number-requires-2 Inv-loop μ-loop
 number-requires-2 c κs = search shown
@@ -54,11 +45,8 @@ number-requires-2 c κs = search shown
 number-requires-3 : tie.Need-number-requires-3 Inv-loop μ-loop
 number-requires-3 c κs = search shown
 
-slice-aggregate-write-all-4 : tie.Need-slice-aggregate-write-all-4 Inv-loop μ-loop
-slice-aggregate-write-all-4 c = search shown
-
-write-all-requires-4 : tie.Need-write-all-requires-4 Inv-loop μ-loop
-write-all-requires-4 c κs = search shown
+end-line-requires-2 : tie.Need-end-line-requires-2 Inv-loop μ-loop
+end-line-requires-2 c κs = search shown
 
 add-n : tie.Need-add-n Inv-loop μ-loop
 add-n c = search shown
@@ -78,22 +66,18 @@ show-names-spec =
     (tie.spec
     Inv-loop
     μ-loop
-    slice-aggregate-write-all
-    write-all-requires
-    place-requires
+    slice-aggregate-write
+    write-requires
     number-requires
-    slice-aggregate-write-all-2
-    write-all-requires-2
+    end-line-requires
     loop-holds
-    cast-t18
+    cast-t13
     kind-requires
-    slice-aggregate-write-all-3
-    write-all-requires-3
-    place-requires-2
+    slice-aggregate-write-2
+    write-requires-2
     number-requires-2
     number-requires-3
-    slice-aggregate-write-all-4
-    write-all-requires-4
+    end-line-requires-2
     add-n
     loop-less
     loop-again

@@ -1,7 +1,7 @@
 -- `report::line` meets its contract: each word and number is behind the last. Assumes nothing.
 use borrow.Author.Needs.{needs}
 use Rattle.report.proofs.Laws.{room-of, word-line, word-three, line-accepted, line-breaks, line-model, line-estimate}
-use Rattle.definitions.specs.Program.{acceptedWord, clauseWord, refusedModelWords, refusedEstimateWords}
+use Rattle.definitions.specs.Program.{bytesOf}
 use mathlib.Core.Path.{refl}
 use lib.Dec.{lit≤}
 use Rattle.report.proofs.line.Statement.{statement}
@@ -65,26 +65,26 @@ with-three-requires-3 : tie.Need-with-three-requires-3
 with-three-requires-3 c κs = search needs
 
 returns : tie.Need-returns
-unfolding acceptedWord
+unfolding bytesOf
 returns c =
     word-line _ _ _ _ _ (c .before .before .before .before .empty .ensures) (lit≤ tt) (c .with-word .ensures) refl (line-accepted _ (c .before .before .enum-told .given .1))
 
 returns-2 : tie.Need-returns-2
-unfolding clauseWord
+unfolding bytesOf
 returns-2 c =
     let k = c .before .before .before .before .before in
     word-three _ _ _ _ _ _ _ _ _ (k .before .before .empty .ensures) (lit≤ tt) (c .before .before .with-word2 .ensures) refl (c .with-three .ensures)
     (line-breaks _ (k .v .given .0 .0) (k .v .given .1))
 
 returns-3 : tie.Need-returns-3
-unfolding refusedModelWords
+unfolding bytesOf
 returns-3 c =
     let k = c .before .before .before .before .before in
     word-three _ _ _ _ _ _ _ _ _ (k .before .before .empty .ensures) (lit≤ tt) (c .before .before .with-word3 .ensures) refl (c .with-three2 .ensures)
     (line-model _ (k .v2 .given .0 .0) (k .v2 .given .1))
 
 returns-4 : tie.Need-returns-4
-unfolding refusedEstimateWords
+unfolding bytesOf
 returns-4 c =
     let k = c .before .before .before .before .before in
     word-three _ _ _ _ _ _ _ _ _ (k .before .before .empty .ensures) (lit≤ tt) (c .before .before .with-word4 .ensures) refl (c .with-three3 .ensures)
