@@ -260,22 +260,13 @@ impl Hand {
     fn starve_line(&mut self) {
         let operation = [3, 4, 5, 5, 6, 7, 8, 8][self.rng.below(8)];
         let Some((box_no, record)) = self.line_of(operation) else { return };
-        let [first, second] = [record[1], record[2]].map(|name| usize::from(name) % MAX_NAMES);
-        let (eps, kap) = (1 + 2 * box_no, 2 + 2 * box_no);
-        let (block, word) = match operation {
-            3 => (0, first),
-            4 => (kap, first),
-            5 => (0, second),
-            6 => (eps, first),
-            7 => (eps, HIDDEN_WORD),
-            _ => (eps, SHOWN_WORD),
-        };
+        let (block, word) = asked_set(box_no, &record);
         let (names, free) = (self.names(), self.free());
         let (blocks, _) = self.estimate.as_chunks_mut::<BLOCK>();
         let Some(block) = blocks.get_mut(block) else { return };
         let mut place = Place { rng: &mut self.rng, names, free, block };
         if operation >= 7 && place.rng.percent(60) {
-            place.take(word, NameNo(first as u8));
+            place.take(word, NameNo(record[1] % MAX_NAMES as u8));
         } else {
             place.take_any(word);
         }
@@ -302,6 +293,20 @@ impl Hand {
             let set = place.word(word) | 1 << place.name();
             put_word(place.block, word, set);
         });
+    }
+}
+
+/// A set of the estimate that a line asks for: its block and its word.
+fn asked_set(box_no: usize, record: &[u8; 16]) -> (usize, usize) {
+    let [operation, first, second] = [record[0], record[1], record[2]].map(usize::from);
+    let (eps, kap) = (1 + 2 * box_no, 2 + 2 * box_no);
+    match operation {
+        4 => (kap, first % MAX_NAMES),
+        5 => (0, second % MAX_NAMES),
+        6 => (eps, first % MAX_NAMES),
+        7 => (eps, HIDDEN_WORD),
+        8 => (eps, SHOWN_WORD),
+        _ => (0, first % MAX_NAMES),
     }
 }
 
