@@ -1,15 +1,17 @@
 //! The readers, the checker, the question and the refused block on generated images and on damaged ones.
 
-use bm::block::{self, BLOCK};
+use bm::block::BLOCK;
 use bm::cases::{self, Case};
 use bm::cases::rng::Rng;
 use bm::{Model, Refusal, ShutOff, Verdict, calls};
 
+use crate::damage::Hand;
 use crate::proved;
+use crate::tally::Tally;
 
 /// How many generated cases are taken as they are, and how many images are damaged.
 const GENERATED: u64 = 2_000;
-const DAMAGED: u64 = 120_000;
+const DAMAGED: u64 = 240_000;
 
 const ACCEPTED: u64 = 0;
 const BROKEN: u64 = 1;
@@ -46,57 +48,66 @@ fn answer(answer: ShutOff) -> u64 {
     }
 }
 
-/// How many of the answers for one pair of images differ.
-fn differences(model: &[u8], estimate: &[u8], h: u32) -> u64 {
+/// The answers for one pair of images, and how many of the proved library's differ.
+struct Compared {
+    checked: Verdict,
+    asked: ShutOff,
+    differences: u64,
+}
+
+fn compared(model: &[u8], estimate: &[u8], h: u32) -> Compared {
     let read = Model::read(model).err().map_or(0, |why| refusal(REFUSED_MODEL, why));
+    let (checked, asked) = (calls::check(model, estimate), calls::shut_off(model, estimate, h as usize));
+    let part = calls::refused_block(model, estimate);
     let mut buffer = [0u8; BLOCK];
     let written = proved::refused_block(model, estimate, &mut buffer) as usize;
-    let part = calls::refused_block(model, estimate);
     let same = [
         proved::read_model(model) == read,
-        proved::check(model, estimate) == verdict(calls::check(model, estimate)),
-        proved::shut_off(model, estimate, h) == answer(calls::shut_off(model, estimate, h as usize)),
+        proved::check(model, estimate) == verdict(checked),
+        proved::shut_off(model, estimate, h) == answer(asked),
         buffer.get(..written) == Some(part),
     ];
-    same.iter().filter(|same| !**same).count() as u64
+    let differences = same.iter().filter(|same| !**same).count() as u64;
+    Compared { checked, asked, differences }
 }
 
-/// Changes a byte or a bit or the length, and mostly makes the block's check anew.
-fn damage(rng: &mut Rng, image: &mut Vec<u8>) {
-    if rng.percent(3) || image.is_empty() {
-        image.resize(rng.below(42 * BLOCK + 3), 0);
-        return;
-    }
-    let at = rng.below(image.len());
-    image[at] = if rng.percent(50) { image[at] ^ (1 << rng.below(8)) } else { rng.word() as u8 };
-    let start = at / BLOCK * BLOCK;
-    let whole = image.get_mut(start..).and_then(|rest| rest.first_chunk_mut::<BLOCK>());
-    if let (Some(block), true) = (whole, rng.percent(90)) {
-        block::seal(block);
-    }
+/// Compares generated pairs as they are.
+fn compare_generated(pairs: &[Case]) -> u64 {
+    let asked = pairs.iter().flat_map(|case| [0, 1, 7, 8, u32::MAX].map(|h| (case, h)));
+    asked.map(|(case, h)| compared(&case.model, &case.estimate, h).differences).sum()
 }
 
-/// The number of answers that differ.
-pub fn compare() -> u64 {
-    let mut found = 0;
-    let mut pairs: Vec<Case> = Vec::new();
-    for number in 0..GENERATED {
-        let case = cases::case(11, number);
-        for h in [0, 1, 7, 8, u32::MAX] {
-            found += differences(&case.model, &case.estimate, h);
-        }
-        pairs.push(case);
-    }
+/// Mostly a box that the estimate's length allows.
+fn some_box(rng: &mut Rng, case: &Case) -> u32 {
+    let boxes = case.estimate.len() / BLOCK / 2;
+    let limit = if rng.percent(80) { boxes.max(1) } else { 9 };
+    rng.below(limit) as u32
+}
+
+/// Compares damaged pairs, which come mostly from accepted ones.
+fn compare_damaged(pairs: &[Case]) -> (u64, Tally) {
+    let sound = pairs.iter().filter(|case| calls::check(&case.model, &case.estimate) == Verdict::Accepted);
+    let sound: Vec<&Case> = sound.collect();
+    let (mut found, mut tally) = (0, Tally::default());
     for number in 0..DAMAGED {
         let mut rng = Rng::for_case(13, number);
-        let case = &pairs[rng.below(pairs.len())];
-        let (mut model, mut estimate) = (case.model.clone(), case.estimate.clone());
-        for _ in 0..rng.between(1, 3) {
-            let image = if rng.percent(60) { &mut model } else { &mut estimate };
-            damage(&mut rng, image);
-        }
-        found += differences(&model, &estimate, rng.below(9) as u32);
+        let any = rng.percent(10);
+        let case = if any { &pairs[rng.below(pairs.len())] } else { sound[rng.below(sound.len())] };
+        let h = some_box(&mut rng, case);
+        let Hand { model, estimate, .. } = Hand::damaged(rng, &case.model, &case.estimate);
+        let Compared { checked, asked, differences } = compared(&model, &estimate, h);
+        tally.note(checked, asked);
+        found += differences;
     }
-    println!("images: {GENERATED} generated pairs, {DAMAGED} damaged ones, four calls each");
-    found
+    (found, tally)
+}
+
+/// The number of answers that differ, and of kinds of answer that came too seldom or too often.
+pub fn compare() -> (u64, u64) {
+    let pairs: Vec<Case> = (0..GENERATED).map(|number| cases::case(11, number)).collect();
+    let of_generated = compare_generated(&pairs);
+    let (of_damaged, tally) = compare_damaged(&pairs);
+    println!("images: {GENERATED} generated pairs, {DAMAGED} damaged ones, four calls each; the damaged ones:");
+    tally.print();
+    (of_generated + of_damaged, tally.faults())
 }

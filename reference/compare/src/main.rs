@@ -1,10 +1,13 @@
 //! The proved library against the separately written implementation: `compare` holds every answer to the other side's and ends with
-//! a failure where two differ; `compare bench` prints times of both in one run, as ratios, and judges nothing.
+//! a failure where two differ or a kind of answer came too seldom; `compare bench` prints times of both in one run, as ratios, and
+//! judges nothing.
 
 mod checks;
+mod damage;
 mod images;
 mod proved;
 mod speed;
+mod tally;
 mod timing;
 
 use std::process::ExitCode;
@@ -16,7 +19,8 @@ fn main() -> ExitCode {
         speed::bench();
         return ExitCode::SUCCESS;
     }
-    let differences = checks::compare() + images::compare();
-    println!("{differences} differences");
-    if differences == 0 { ExitCode::SUCCESS } else { ExitCode::FAILURE }
+    let of_checks = checks::compare();
+    let (of_images, faults) = images::compare();
+    println!("{} differences, {faults} kinds of answer too seldom or too often", of_checks + of_images);
+    if of_checks + of_images + faults == 0 { ExitCode::SUCCESS } else { ExitCode::FAILURE }
 }

@@ -2,14 +2,16 @@
 
 use std::hint::black_box;
 
+use bm::cases::k;
 use bm::cases::random::{self, Size};
 use bm::cases::rng::Rng;
-use bm::cases::k;
 use bm::least::least;
-use bm::write::Draft;
-use bm::{Estimate, Model, calls};
+use bm::model::{Line, LineNo, Site};
+use bm::write::{Draft, DraftBox};
+use bm::{Estimate, Model, NameKind, NameNo, NameSet, Verdict, calls, clauses};
 
-use crate::{proved, timing};
+use crate::timing::{self, Times};
+use crate::proved;
 
 /// A model and an estimate, as images.
 struct Pair {
@@ -18,13 +20,74 @@ struct Pair {
     estimate: Vec<u8>,
 }
 
-fn pair(name: &str, draft: &Draft, change: impl FnOnce(&Model, &mut Estimate)) -> Pair {
+impl Pair {
+    fn verdict(&self) -> Verdict {
+        calls::check(&self.model, &self.estimate)
+    }
+
+    fn bench_read(&self) {
+        let model = self.model.as_slice();
+        let times = timing::both(|| proved::read_model(black_box(model)), || Model::read(black_box(model)).is_ok());
+        timing::line(&format!("read model: {}", self.name), times);
+    }
+
+    fn bench_calls(&self, measured: &mut Measured) {
+        let Pair { name, model, estimate } = self;
+        let times = timing::both(
+            || proved::check(black_box(model), black_box(estimate)),
+            || calls::check(black_box(model), black_box(estimate)),
+        );
+        measured.note(format!("check: {name}"), times);
+        let times = timing::both(
+            || proved::shut_off(black_box(model), black_box(estimate), 0),
+            || calls::shut_off(black_box(model), black_box(estimate), 0),
+        );
+        measured.note(format!("shut off: {name}"), times);
+    }
+}
+
+/// An accepted pair, and the same broken late. The change is made to the model's least estimate.
+fn pairs(name: &str, draft: &Draft, change: impl FnOnce(&Model, &mut Estimate)) -> [Pair; 2] {
     let image = draft.image();
     let model = Model::read(&image).expect("an accepted model");
     let mut estimate = least(&model);
     change(&model, &mut estimate);
     let boxes = model.boxes().len();
-    Pair { name: name.to_string(), model: image, estimate: estimate.image(boxes) }
+    let broken = broken_late(&model, &estimate).image(boxes);
+    let accepted = Pair { name: name.to_string(), model: image.clone(), estimate: estimate.image(boxes) };
+    let broken = Pair { name: format!("{name}, broken late"), model: image, estimate: broken };
+    assert_eq!(accepted.verdict(), Verdict::Accepted, "{name}");
+    [accepted, broken]
+}
+
+/// The estimate less one member, the lowest or highest of a set, such that the first broken clause comes as late as can be.
+fn broken_late(model: &Model, estimate: &Estimate) -> Estimate {
+    let count = random::sets(model, &mut estimate.clone()).count();
+    let tries = (0..count).flat_map(|at| [(at, true), (at, false)]);
+    let short = tries.filter_map(|(at, lowest)| {
+        let mut short = estimate.clone();
+        let set = random::sets(model, &mut short).nth(at)?;
+        let member = if lowest { set.lowest() } else { set.into_iter().last() };
+        *set = set.without(member?);
+        let broken = clauses::check(model, &short).err()?;
+        Some((broken.box_no, broken.record, short))
+    });
+    let latest = short.max_by_key(|(box_no, record, _)| (*box_no, *record));
+    latest.expect("a member that a clause asks for").2
+}
+
+/// The largest model, with a restriction late in the last box.
+fn largest(rng: &mut Rng) -> Draft {
+    let mut draft = random::draft(rng, Size { names: 59, ..Size::LARGEST });
+    draft.kinds.push(NameKind::Restricted);
+    let lines = draft.boxes.last_mut().into_iter().flat_map(|def| def.lines.iter_mut().rev());
+    for line in lines {
+        if let Line::Output { next, .. } = *line {
+            *line = Line::Restrict { name: NameNo(59), next };
+            break;
+        }
+    }
+    draft
 }
 
 /// Every set full.
@@ -33,40 +96,126 @@ fn full(model: &Model, estimate: &mut Estimate) {
     random::sets(model, estimate).for_each(|set| *set = listed);
 }
 
-/// Every set full but the last box's kap, so that a clause of the last lines is broken.
-fn broken_late(model: &Model, estimate: &mut Estimate) {
-    full(model, estimate);
-    let last = model.boxes().len() - 1;
-    estimate.boxes[last].hidden = bm::NameSet(0);
-    estimate.boxes[last].kap.iter_mut().for_each(|set| *set = bm::NameSet(0));
+/// The names that the types of a box may have: every box has some free names of its own.
+fn share(free: NameSet, boxes: usize, box_no: usize) -> NameSet {
+    free.into_iter().skip(box_no).step_by(boxes).collect()
 }
 
-fn pairs() -> Vec<Pair> {
+/// The draft with types of each box from its own share, and restrictions instead of exposes, whose types would be as wide as rho.
+fn types_apart(mut draft: Draft) -> Draft {
+    let free = |at: &usize| draft.kinds[*at] == NameKind::Free;
+    let free: NameSet = (0..draft.kinds.len()).filter(free).map(|at| NameNo(at as u8)).collect();
+    let exposed = draft.kinds.iter_mut().filter(|kind| **kind == NameKind::Exposed);
+    exposed.for_each(|kind| *kind = NameKind::Restricted);
+    let boxes = draft.boxes.len();
+    for (box_no, def) in draft.boxes.iter_mut().enumerate() {
+        let share = share(free, boxes, box_no);
+        for site in &mut def.sites {
+            site.ty = share.without(site.subject);
+        }
+        for line in &mut def.lines {
+            if let Line::Expose { name, next, .. } = *line {
+                *line = Line::Restrict { name, next };
+            }
+        }
+    }
+    draft
+}
+
+/// Every set full, but eps of each box only its share.
+fn full_apart(model: &Model, estimate: &mut Estimate) {
+    full(model, estimate);
+    let boxes = model.boxes().len();
+    for (box_no, sets) in estimate.boxes[..boxes].iter_mut().enumerate() {
+        sets.eps[..model.kinds().len()].fill(share(model.free(), boxes, box_no));
+    }
+}
+
+/// Eight boxes, eight free names, one the subject of each box and the type of another; outputs, and at the end 52 inputs in all.
+fn most_inputs() -> Draft {
+    let kinds = (0..60).map(|at| if at < 8 { NameKind::Free } else { NameKind::Received });
+    let boxes = (0..8).map(|box_no| {
+        let (on, other) = (NameNo(box_no), NameNo((box_no + 1) % 8));
+        let received: Vec<NameNo> = (8 + box_no..60).step_by(8).map(NameNo).collect();
+        let outputs = 123 - received.len();
+        let mut lines: Vec<Line> = (0..outputs).map(|at| Line::Output { on, of: other, next: after(at) }).collect();
+        let inputs = received.into_iter().enumerate();
+        lines.extend(inputs.map(|(at, into)| Line::Input { on, into, next: after(outputs + at) }));
+        lines.push(Line::Nil);
+        DraftBox { sites: vec![Site { subject: on, hidden: false, ty: NameSet::one(other) }], lines }
+    });
+    Draft { kinds: kinds.collect(), boxes: boxes.collect() }
+}
+
+fn after(line: usize) -> LineNo {
+    LineNo(line as u16 + 1)
+}
+
+/// Nearly every set full, but types apart, and no box sends or receives its own subject: so each input asks about every two shown
+/// names of two boxes.
+fn nearly_full(model: &Model, estimate: &mut Estimate) {
+    full(model, estimate);
+    for (box_no, def) in model.boxes().iter().enumerate() {
+        let Site { subject, ty, .. } = def.sites()[0];
+        let others = model.listed().without(subject);
+        let alike = model.listed().into_iter().filter(|name| ty.has(NameNo(name.0 % 8)));
+        estimate.boxes[box_no].eps.fill(alike.collect());
+        estimate.boxes[box_no].kap.fill(others);
+        let bound = def.lines().iter().filter_map(|line| line.bound());
+        bound.chain(ty).for_each(|name| estimate.rho[name.index()] = others);
+    }
+}
+
+fn all_pairs() -> Vec<Pair> {
     let mut rng = Rng::new(3);
     let typical = Size { names: 36, boxes: 4, lines: (40, 40), ..Size::typical(&mut rng) };
     let typical = random::draft(&mut rng, typical);
-    let largest = random::draft(&mut rng, Size::LARGEST);
-    vec![
-        pair("K", &k::model(), |_, _| ()),
-        pair("typical", &typical, |_, _| ()),
-        pair("largest", &largest, |_, _| ()),
-        pair("largest, full sets", &largest, full),
-        pair("largest, broken late", &largest, broken_late),
-    ]
+    let largest = largest(&mut rng);
+    let made = [
+        pairs("K", &k::model(), |_, _| ()),
+        pairs("typical", &typical, |_, _| ()),
+        pairs("largest", &largest, |_, _| ()),
+        pairs("largest, full sets", &largest, full),
+        pairs("largest, types apart", &types_apart(largest.clone()), full_apart),
+        pairs("most inputs", &most_inputs(), nearly_full),
+    ];
+    made.into_iter().flatten().collect()
+}
+
+/// The measurements of checks and questions.
+#[derive(Default)]
+struct Measured(Vec<(String, Times)>);
+
+impl Measured {
+    fn note(&mut self, name: String, times: Times) {
+        timing::line(&name, times);
+        self.0.push((name, times));
+    }
+
+    /// The entry for which a number is greatest.
+    fn greatest(&self, number: impl Fn(Times) -> f64) -> &(String, Times) {
+        let order = |one: &&(String, Times), other: &&(String, Times)| number(one.1).total_cmp(&number(other.1));
+        self.0.iter().max_by(order).expect("a measurement")
+    }
+
+    fn print_worst(&self) {
+        let (slowest, ratio) = self.greatest(Times::ratio);
+        let (longest, time) = self.greatest(|times| times.proved);
+        let (ratio, time) = (ratio.ratio(), time.proved / 1e6);
+        println!("worst: ratio {ratio:.2} at {slowest}; {time:.3} ms at {longest}");
+    }
 }
 
 pub fn bench() {
-    for Pair { name, model, estimate } in pairs() {
-        let (model, estimate) = (model.as_slice(), estimate.as_slice());
-        println!("{name}: {}", calls::check(model, estimate));
-        let proved = timing::nanos(|| proved::read_model(black_box(model)));
-        let rust = timing::nanos(|| Model::read(black_box(model)).is_ok());
-        timing::line(&format!("read model: {name}"), proved, rust);
-        let proved = timing::nanos(|| proved::check(black_box(model), black_box(estimate)));
-        let rust = timing::nanos(|| calls::check(black_box(model), black_box(estimate)));
-        timing::line(&format!("check: {name}"), proved, rust);
-        let proved = timing::nanos(|| proved::shut_off(black_box(model), black_box(estimate), 0));
-        let rust = timing::nanos(|| calls::shut_off(black_box(model), black_box(estimate), 0));
-        timing::line(&format!("shut off: {name}"), proved, rust);
+    let mut measured = Measured::default();
+    let mut read: Vec<u8> = Vec::new();
+    for pair in all_pairs() {
+        println!("{}: {}", pair.name, pair.verdict());
+        if pair.model != read {
+            pair.bench_read();
+        }
+        pair.bench_calls(&mut measured);
+        read = pair.model;
     }
+    measured.print_worst();
 }
