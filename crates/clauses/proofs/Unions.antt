@@ -65,6 +65,25 @@ forSome-cong s p q e =
     (λ t. let x = forSome-iff s p .0 t in forSome-iff s q .1 (x .0, x .1, x .2, of-true (sym (e (x .0)) ∙ true-of (p (x .0)) (x .3))))
     (λ t. let x = forSome-iff s q .0 t in forSome-iff s p .1 (x .0, x .1, x .2, of-true (e (x .0) ∙ true-of (q (x .0)) (x .3))))
 
+joined-union : (v w u y : ℕ) → UnionOf v w u → u ≡ y → Joined v w (within y)
+joined-union v w u y j e = record { same = λ q. within-union v w u j q ∙ ap (λ (z : ℕ). within w q and within z q) e }
+
+-- a test is asked, where a condition holds
+module _ (c : Bool) (p : ℕ → Bool) where
+  joined-if : (v w : ℕ) → c ≡ true → Joined v w p → Joined v w (λ q. c implies p q)
+  unfolding _implies_
+  joined-if v w t j = record { same = λ q. j .same q ∙ ap (λ (z : Bool). within w q and (z implies p q)) (sym t) }
+
+  joined-not : (w : ℕ) → c ≡ false → Joined w w (λ q. c implies p q)
+  unfolding _implies_
+  joined-not w t = record { same = λ q. sym (and-true (within w q)) ∙ ap (λ (z : Bool). within w q and (z implies p q)) (sym t) }
+
+isnt-yes : (k b : ℕ) → (k ≡ b → ⊥) → (k isnt b) ≡ true
+isnt-yes k b f = true-of (k isnt b) (isnt-iff k b .1 f)
+
+isnt-no : (k b : ℕ) → k ≡ b → (k isnt b) ≡ false
+isnt-no k b e = false-of (k isnt b) (λ t. isnt-iff k b .0 t e)
+
 -- ---- one name of another box
 
 module _ (e : Estimate) (x k c w : ℕ) (b : Bool) (y : ℕ) (eb : b ≡ meets x y) (ey : y ≡ e .eps k c) where
@@ -72,19 +91,12 @@ module _ (e : Estimate) (x k c w : ℕ) (b : Bool) (y : ℕ) (eb : b ≡ meets x
   test = sym (eb ∙ ap (meets x) ey)
 
   pub face-in : (v u : ℕ) → b ≡ true → UnionOf v w u → u ≡ e .kap k c → Joined v w (faceAsk e x k c)
-  unfolding faceAsk _implies_
-  face-in v u t j eu = record {
-    same = λ q. within-union v w u j q
-        ∙ ap (λ (z : Bool). within w q and z)
-        (ap (λ (z : ℕ). within z q) eu ∙ sym (ap (λ (z : Bool). z implies within (e .kap k c) q) (test ∙ t)));
-  }
+  unfolding faceAsk
+  face-in v u t j eu = joined-if (meets x (e .eps k c)) (within (e .kap k c)) v w (test ∙ t) (joined-union v w u (e .kap k c) j eu)
 
   pub face-out : b ≡ false → Joined w w (faceAsk e x k c)
-  unfolding faceAsk _implies_
-  face-out t = record {
-    same = λ q. sym (and-true (within w q))
-        ∙ ap (λ (z : Bool). within w q and z) (sym (ap (λ (z : Bool). z implies within (e .kap k c) q) (test ∙ t)));
-  }
+  unfolding faceAsk
+  face-out t = joined-not (meets x (e .eps k c)) (within (e .kap k c)) w (test ∙ t)
 
 -- ---- each name of a set
 
@@ -115,7 +127,7 @@ module _ (s : ℕ) (p : ℕ → ℕ → Bool) (w₀ : ℕ) where
 module _ (e : Estimate) (k s : ℕ) where
   pub send-in : (v w u c : ℕ) → UnionOf v w u → u ≡ e .kap k c → Joined v w (sendAsk e k c)
   unfolding sendAsk
-  send-in v w u c j eu = record { same = λ q. within-union v w u j q ∙ ap (λ (z : ℕ). within w q and within z q) eu }
+  send-in v w u c = joined-union v w u (e .kap k c)
 
   pub sent-end : (left w : ℕ) → Gathering s (sendAsk e k) 0 left w → left ≡ 0 → Asked w (receivedIn e k s)
   unfolding sendAsk receivedIn _and_
@@ -203,21 +215,13 @@ module _ (e : Estimate) (h k : ℕ) where
 
 module _ (e : Estimate) (b x k w : ℕ) where
   pub other-in : (v s : ℕ) → (k ≡ b → ⊥) → Joined v w (facesAsk e x k s) → s ≡ e .shown k → Joined v w (otherAsk e b x k)
-  unfolding otherAsk _implies_
-  other-in v s f j es = record {
-    same = λ q. j .same q
-        ∙ ap (λ (z : Bool). within w q and z)
-        (ap (λ (z : ℕ). facesAsk e x k z q) es
-        ∙ sym (ap (λ (z : Bool). z implies facesAsk e x k (e .shown k) q) (true-of (k isnt b) (isnt-iff k b .1 f))));
-  }
+  unfolding otherAsk
+  other-in v s f j es =
+      joined-if (k isnt b) (facesAsk e x k (e .shown k)) v w (isnt-yes k b f) (subst (λ (z : ℕ). Joined v w (facesAsk e x k z)) es j)
 
   pub other-out : k ≡ b → Joined w w (otherAsk e b x k)
-  unfolding otherAsk _implies_
-  other-out f = record {
-    same = λ q. sym (and-true (within w q))
-        ∙ ap (λ (z : Bool). within w q and z)
-        (sym (ap (λ (z : Bool). z implies facesAsk e x k (e .shown k) q) (false-of (k isnt b) (λ t. isnt-iff k b .0 t f))));
-  }
+  unfolding otherAsk
+  other-out f = joined-not (k isnt b) (facesAsk e x k (e .shown k)) w (isnt-no k b f)
 
 -- what the boxes below k ask
 pub record Through (f : ℕ → ℕ → Bool) (n k w : ℕ) : Type 0 where
@@ -323,24 +327,15 @@ module _ (image : List ℕ) (boxes b : ℕ) where
 
 pub rest-in-other : (image : List ℕ) (boxes b k w v u : ℕ) (t : List ℕ) → (k ≡ b → ⊥) → Sends image boxes t → k < boxes → u ≡ getD t k 0 → UnionOf v w u
     → Joined v w (restOne (estimateOf image) b k)
-unfolding restOne _implies_
+unfolding restOne
 rest-in-other image boxes b k w v u t f d h eu j =
     let e = estimateOf image in
-    record {
-      same = λ q. within-union v w u j q
-          ∙ ap (λ (z : Bool). within w q and z)
-          (sends-at image boxes t k (e .shown k) u d h refl eu .same q
-          ∙ sym (ap (λ (z : Bool). z implies receivedIn e k (e .shown k) q) (true-of (k isnt b) (isnt-iff k b .1 f))));
-    }
+    joined-if (k isnt b) (receivedIn e k (e .shown k)) v w (isnt-yes k b f)
+    (record { same = λ q. within-union v w u j q ∙ ap (λ (z : Bool). within w q and z) (sends-at image boxes t k (e .shown k) u d h refl eu .same q) })
 
-module _ (e : Estimate) (b k w : ℕ) where
-  pub rest-out-own : k ≡ b → Joined w w (restOne e b k)
-  unfolding restOne _implies_
-  rest-out-own f = record {
-    same = λ q. sym (and-true (within w q))
-        ∙ ap (λ (z : Bool). within w q and z)
-        (sym (ap (λ (z : Bool). z implies receivedIn e k (e .shown k) q) (false-of (k isnt b) (λ t. isnt-iff k b .0 t f))));
-  }
+pub rest-out-own : (e : Estimate) (b k w : ℕ) → k ≡ b → Joined w w (restOne e b k)
+unfolding restOne
+rest-out-own e b k w f = joined-not (k isnt b) (receivedIn e k (e .shown k)) w (isnt-no k b f)
 
 pub rest-end : (e : Estimate) (boxes b k w : ℕ) → Through (restOne e b) boxes k w → boxes ≤ k → Asked w (restAsk e boxes b)
 unfolding restAsk

@@ -1,4 +1,4 @@
--- What is known of an estimate that has been read; and what clause 6 asks of rho(q), gathered into one set for each box and name. Assumes nothing.
+-- What is known of an estimate that has been read; and what clause 6 asks of rho(q), gathered into one set for each name of a box. Assumes nothing.
 use mathlib.Core.Path.{_≡_}
 use mathlib.Core.Bool.{Bool, true, false}
 use mathlib.Core.List.{List}
@@ -66,10 +66,6 @@ module _ (e : Estimate) where
   unfoldable pub faceAsk : ℕ → ℕ → ℕ → ℕ → Bool
   faceAsk x k c q = meets x (e .eps k c) implies within (e .kap k c) q
 
-  -- what box k may send on its name c is in q: what is gathered over its shown names is all that it may send to other boxes
-  unfoldable pub sendAsk : ℕ → ℕ → ℕ → Bool
-  sendAsk k c q = within (e .kap k c) q
-
   -- it faces each name of a set
   unfoldable pub facesAsk : ℕ → ℕ → ℕ → ℕ → Bool
   facesAsk x k s q = forEach s (λ c. faceAsk x k c q)
@@ -84,6 +80,10 @@ module _ (e : Estimate) where
   -- name a of box b, where it is shown
   unfoldable pub nameAsk : ℕ → ℕ → ℕ → ℕ → Bool
   nameAsk boxes b a q = has (e .shown b) a implies boxesAsk boxes b (e .eps b a) q
+
+  -- what box k may send on its name c is in q
+  unfoldable pub sendAsk : ℕ → ℕ → ℕ → Bool
+  sendAsk k c q = within (e .kap k c) q
 
   -- all that box k may send on its shown names is in q, where it is not box b; and so for every box
   unfoldable pub restOne : ℕ → ℕ → ℕ → Bool
