@@ -1,28 +1,28 @@
 -- What is known once neither image is refused: places in the images, and the bounds of the names. Assumes nothing.
-use mathlib.Core.Path.{_≡_, refl, sym, ap, ap₂, subst, _∙_}
-use mathlib.Core.Bool.{Bool, true, false, not}
+use mathlib.Core.Path.{_≡_, sym, ap, subst, _∙_}
+use mathlib.Core.Bool.{Bool, true, false}
 use mathlib.Core.List.{List}
 use mathlib.Core.Logic.{_≢_, inr}
 use Prim.Native.Nat.{ℕ, _+_, _-_, _*_, _/_, _%_, _≤_, _<_}
 use native.Mathlib.Omega.{arith}
-use native.Mathlib.Decide.{decLt, ℕ-discrete}
+use native.Mathlib.Decide.{ℕ-discrete}
 use mir.Val.{Fits}
 use mir.Syntax.{w8}
 use lib.Dec.{T}
-use lib.ListN.{length, getD}
-use Rattle.definitions.specs.Bounded.{_and_, _or_, _implies_, _is_, _upto_}
-use Rattle.definitions.specs.Sets.{has, forEach}
+use lib.ListN.{length}
+use Rattle.definitions.specs.Bounded.{_and_, _or_, _is_}
+use Rattle.definitions.specs.Sets.{has}
 use Rattle.definitions.specs.Words.{blockOf, countOf}
 use Rattle.definitions.specs.Model as paper
 use Rattle.definitions.specs.Image.{siteRecord, lineRecord, nameCount, boxesOf, kindsOf, sitesBlock, linesOf, boxOfImage, modelOf}
 use Rattle.definitions.specs.Estimate.{estimateOf}
-use Rattle.definitions.specs.ReadModel.{readModel, lineFits, typeFits, usesName1, usesName2}
-use Rattle.definitions.proofs.Bounded.{tests, and-iff, or-iff, is-iff, any-iff, not-false, true-of, of-true}
+use Rattle.definitions.specs.ReadModel.{lineFits, typeFits, usesName1, usesName2}
+use Rattle.definitions.proofs.Bounded.{tests, and-iff, or-iff, is-iff, any-iff, not-false}
 use Rattle.definitions.proofs.Faults.{not-iff}
-use Rattle.definitions.proofs.Sets.{forEach-iff, has-none, has-below}
+use Rattle.definitions.proofs.Sets.{forEach-iff, has-none}
 use Rattle.definitions.proofs.Image.{model-count, model-box, model-kinds, model-names, box-sites, box-site, box-lines, box-line}
 use Rattle.definitions.proofs.Valid.{Valid}
-use Rattle.definitions.proofs.ReadModel.{Blocks, Readable, read-iff, valid-image, lines-there, sites-there}
+use Rattle.definitions.proofs.ReadModel.{Blocks, read-iff, valid-image, lines-there, sites-there}
 use Rattle.definitions.proofs.ReadEstimate.{EstimateFits, estimate-fits}
 use Rattle.model.specs.declared.Site.{Site}
 use Rattle.model.specs.declared.Line.{Line}

@@ -1,12 +1,11 @@
 -- Laws of the verdict, of the reply, and of the refused block. Assumes nothing.
-use mathlib.Core.Path.{_≡_, refl, sym, ap, ap₂, subst, _∙_}
-use mathlib.Core.Bool.{Bool, true, false, not}
+use mathlib.Core.Path.{_≡_, refl, sym, ap, ap₂, _∙_}
+use mathlib.Core.Bool.{Bool, true, false}
 use mathlib.Core.List.{List, []}
 use mathlib.Core.Option.{Option, none, some}
 use Prim.Native.Nat.{ℕ, _+_, _-_, _*_, _%_, _≤_, _<_}
 use native.Mathlib.Omega.{arith}
 use borrow.Author.Needs.{needs}
-use lib.Dec.{T}
 use lib.ListN.{length, take, drop, drop-of-length-le}
 use Rattle.definitions.specs.Bounded.{_and_, _or_, _isnt_, _below_, _upto_, faultIf, orElse}
 use Rattle.definitions.specs.Words.{blockOf}
@@ -17,10 +16,10 @@ use Rattle.definitions.specs.Estimate.{estimateOf}
 use Rattle.definitions.specs.ReadEstimate.{readEstimate}
 use Rattle.definitions.specs.Clauses as cl
 use Rattle.definitions.specs.ShutOff as shut
-use Rattle.definitions.proofs.Bounded.{and-iff, below-iff, upto-iff, isnt-iff, true-of, false-of, of-true, not-false}
+use Rattle.definitions.proofs.Bounded.{and-iff, below-iff, upto-iff, true-of, false-of, of-true, not-false}
 use Rattle.definitions.proofs.ReadModel.{length-iff}
 use Rattle.definitions.proofs.Faults.{agree-iff}
-use Rattle.definitions.proofs.Loops.{fails, holds}
+use Rattle.definitions.proofs.Loops.{holds}
 use Rattle.estimate.specs.declared.Answer.{Answer as Fitted}
 use Rattle.estimate.specs.declared.Answer.the-variants.{Held as Fits, Refused as Misfit}
 use Rattle.estimate.specs.declared.Refusal.{Refusal as Stray}
@@ -38,7 +37,7 @@ use Rattle.analysis.specs.declared.Found.the-variants.{Nothing, First}
 use Rattle.analysis.specs.declared.Verdict.{Verdict}
 use Rattle.analysis.specs.declared.Verdict.the-variants.{Accepted, Breaks, RefusedModel, RefusedEstimate}
 use Rattle.analysis.specs.declared.Reply.{Reply}
-use Rattle.analysis.specs.Answers.{brokenIn, foundIn, verdictIn, replyIn}
+use Rattle.analysis.specs.Answers.{brokenIn, foundIn, verdictIn}
 use Rattle.analysis.specs.Tests.{Ready, HeldBy, boxReply, partOf, IfBlock, WholeBlocks}
 use Rattle.analysis.proofs.Facts.{small-boxes}
 

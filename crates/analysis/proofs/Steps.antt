@@ -3,20 +3,20 @@ use mathlib.Core.Path.{_≡_, refl, sym, ap, ap₂, _∙_}
 use mathlib.Core.Bool.{Bool, true, false, not}
 use mathlib.Core.List.{List}
 use mathlib.Core.Option.{Option, none, some}
-use Prim.Native.Nat.{ℕ, _+_, _*_, _/_, _%_, _≤_, _<_}
+use Prim.Native.Nat.{ℕ, _+_, _/_, _%_, _<_}
 use native.Mathlib.Omega.{arith}
 use borrow.Author.Needs.{needs}
 use lib.Dec.{T}
 use lib.ListN.{length, getD, replicate, length-replicate, getD-replicate}
-use Rattle.definitions.specs.Bounded.{_and_, _implies_, _is_, _isnt_, _below_, allBelow, faultIf, orElse, firstBelow}
-use Rattle.definitions.specs.Sets.{has, forEach, within, meets}
+use Rattle.definitions.specs.Bounded.{_and_, _implies_, _is_, _isnt_, _below_, faultIf, orElse, firstBelow}
+use Rattle.definitions.specs.Sets.{has, forEach, within}
 use Rattle.definitions.specs.Words.{blockOf, countOf}
 use Rattle.definitions.specs.Model as paper
-use Rattle.definitions.specs.Image.{siteRecord, lineRecord, nameCount, boxesOf, kindsOf, sitesBlock, linesOf, boxOfImage, modelOf}
+use Rattle.definitions.specs.Image.{siteRecord, lineRecord, nameCount, boxesOf, kindsOf, sitesBlock, linesOf, modelOf}
 use Rattle.definitions.specs.Estimate.{Estimate, estimateOf}
 use Rattle.definitions.specs.Clauses as cl
 use Rattle.definitions.specs.ShutOff as shut
-use Rattle.definitions.proofs.Bounded.{is-iff, isnt-iff, below-iff, and-iff, true-of, of-true, false-of, not-false, all-cong}
+use Rattle.definitions.proofs.Bounded.{is-iff, isnt-iff, below-iff, and-iff, true-of, of-true, false-of, all-cong}
 use Rattle.definitions.proofs.Sets.{forEach-iff}
 use Rattle.definitions.proofs.Image.{model-count, model-box, model-kinds, model-names, box-sites, box-lines}
 use Rattle.definitions.proofs.Loops.{fails, holds, Passed, passed-start, passed-turn, passed-stop, passed-end, else-stop, else-go, passing-start, passing-turn, passing-stop, passing-end}
@@ -25,14 +25,14 @@ use Rattle.model.specs.declared.Line.{Line}
 use Rattle.model.specs.declared.Layout.{Layout}
 use Rattle.model.specs.Records.{siteIn, lineIn}
 use Rattle.model.specs.Holds.{Holds, OfKind}
-use Rattle.clauses.specs.Asks.{Few, Small, sentIn, receivedIn, crossedIn, sparedIn, typedIn, Asked, faceAsk, facesAsk, otherAsk, boxesAsk, nameAsk, restAsk, Needs}
+use Rattle.clauses.specs.Asks.{Few, sentIn, receivedIn, crossedIn, sparedIn, typedIn, Asked, faceAsk, facesAsk, otherAsk, boxesAsk, nameAsk, restAsk, Needs}
 use Rattle.clauses.proofs.Members.{small-rho}
 use Rattle.clauses.proofs.Unions.{within-none, rest-asks}
 use Rattle.analysis.specs.declared.Broken.{Broken}
 use Rattle.analysis.specs.declared.Found.{Found}
 use Rattle.analysis.specs.declared.Found.the-variants.{Nothing, First}
 use Rattle.analysis.specs.Answers.{brokenIn, foundIn}
-use Rattle.analysis.specs.Tests.{Ready, LineSmall, Decides, nameBroken, inOrder, lineTests}
+use Rattle.analysis.specs.Tests.{Ready, Decides, nameBroken, inOrder, lineTests}
 use Rattle.analysis.proofs.Facts.{box-8, name-60, name-62, name-fits, ready-512, small-boxes, eps-there, site-there, site-at, site-31, site-62, line-at, input-bound, line-there, line-small}
 
 -- ---- one after another

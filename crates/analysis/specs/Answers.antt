@@ -4,7 +4,6 @@ use mathlib.Core.Option.{Option, none, some}
 use Rattle.definitions.specs.Answer.{refusal, unplaced}
 use Rattle.definitions.specs.Clauses as clauses
 use Rattle.definitions.specs.ShutOff as shut
-use Rattle.model.specs.declared.Refusal.{Refusal}
 use Rattle.analysis.specs.declared.Broken.{Broken}
 use Rattle.analysis.specs.declared.Found.{Found}
 use Rattle.analysis.specs.declared.Found.the-variants.{Nothing, First}

@@ -2,7 +2,7 @@
 use mathlib.Core.Path.{_≡_}
 use mathlib.Core.Bool.{Bool, true, false, not}
 use mathlib.Core.List.{List, []}
-use mathlib.Core.Option.{Option, none, some}
+use mathlib.Core.Option.{Option, none}
 use Prim.Native.Nat.{ℕ, _%_, _≤_, _<_}
 use lib.ListN.{length}
 use Rattle.definitions.specs.Bounded.{_and_, _is_, _below_, _upto_, faultIf, orElse}

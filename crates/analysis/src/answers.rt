@@ -1,10 +1,7 @@
 // The verdict and the reply, from what reading the model answered.
 ghost use mathlib.Core.Path.{_≡_};
-ghost use mathlib.Core.Bool.{true, false};
 ghost use mathlib.Core.Option.{none};
 ghost use Prim.Native.Nat.{_<_};
-ghost use Rattle.definitions.specs.Bounded.{_below_};
-ghost use Rattle.definitions.specs.Answer.{unplaced};
 ghost use Rattle.definitions.specs.Image.{nameCount, boxesOf, modelOf};
 ghost use Rattle.definitions.specs.ReadModel.{readModel};
 ghost use Rattle.definitions.specs.Estimate.{estimateOf};

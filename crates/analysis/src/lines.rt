@@ -1,7 +1,7 @@
 // The clauses at one name, one site and one line.
 ghost use mathlib.Core.Path.{_≡_};
 ghost use mathlib.Core.Bool.{not};
-ghost use Prim.Native.Nat.{_+_, _*_, _/_, _%_, _<_, _≤_};
+ghost use Prim.Native.Nat.{_+_, _*_, _<_, _≤_};
 ghost use lib.ListN.{length};
 ghost use Rattle.definitions.specs.Bounded.{faultIf, orElse};
 ghost use Rattle.definitions.specs.Words.{blockOf, countOf};

@@ -1,7 +1,6 @@
 // The first broken clause: names, then box by box its sites and its lines.
 ghost use mathlib.Core.Path.{_≡_};
-ghost use Prim.Native.Nat.{_<_, _≤_};
-ghost use lib.ListN.{length};
+ghost use Prim.Native.Nat.{_<_};
 ghost use mathlib.Core.Bool.{not};
 ghost use Rattle.definitions.specs.Bounded.{_implies_, _isnt_, firstBelow};
 ghost use Rattle.definitions.specs.Words.{blockOf, countOf};

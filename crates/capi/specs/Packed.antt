@@ -1,12 +1,12 @@
 -- The answers of the exported calls as one number, and what a lent buffer then holds. Assumes nothing.
-use mathlib.Core.Bool.{Bool, true, false}
+use mathlib.Core.Bool.{true, false}
 use mathlib.Core.List.{List, _++_}
 use mathlib.Core.Option.{Option, none, some}
 use Prim.Native.Nat.{ℕ, _+_, _*_, _%_}
 use lib.ListN.{length, drop}
 use Rattle.definitions.specs.Bounded.{_upto_}
 use Rattle.definitions.specs.Answer.{Refusal}
-use Rattle.definitions.specs.Clauses.{Broken, Verdict, accepted, breaks, refusedModel, refusedEstimate}
+use Rattle.definitions.specs.Clauses.{Verdict, accepted, breaks, refusedModel, refusedEstimate}
 use Rattle.definitions.specs.ShutOff.{Reply, notAccepted, nobody, isShutOff}
 
 -- a number, or 0 where there is none

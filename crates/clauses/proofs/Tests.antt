@@ -1,6 +1,6 @@
 -- Clauses of several tests: one after another, each on what called functions answered. Assumes nothing.
 use mathlib.Core.Path.{_≡_, refl, sym, ap, ap₂, _∙_}
-use mathlib.Core.Bool.{Bool, true, false, not}
+use mathlib.Core.Bool.{Bool, true, false}
 use Prim.Native.Nat.{ℕ}
 use borrow.Author.Needs.{needs}
 use Rattle.definitions.specs.Bounded.{_and_, _implies_, _is_, _isnt_}

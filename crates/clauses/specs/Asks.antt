@@ -1,11 +1,11 @@
 -- What is known of an estimate that has been read; and what clause 6 asks of rho(q), gathered into one set for each name of a box. Assumes nothing.
 use mathlib.Core.Path.{_≡_}
-use mathlib.Core.Bool.{Bool, true, false}
+use mathlib.Core.Bool.{Bool}
 use mathlib.Core.List.{List}
 use Prim.Native.Nat.{ℕ, _+_, _*_, _≤_, _<_}
 use lib.Dec.{T}
 use lib.ListN.{length, getD}
-use Rattle.definitions.specs.Bounded.{_and_, _implies_, _is_, _isnt_, allBelow}
+use Rattle.definitions.specs.Bounded.{_and_, _implies_, _isnt_, allBelow}
 use Rattle.definitions.specs.Sets.{has, forEach, forSome, within, meets}
 use Rattle.definitions.specs.Estimate.{Estimate, estimateOf}
 

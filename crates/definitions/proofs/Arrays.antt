@@ -1,15 +1,15 @@
 -- A counted array of records: its count is word c, and its slots past the count are zeros. The rule that each live slot passes
 -- a test, and the edits that keep it. Assumes nothing.
-use mathlib.Core.Path.{_≡_, refl, ap, subst, sym, _∙_}
-use mathlib.Core.Logic.{_⊎_, inl, inr, _≢_}
+use mathlib.Core.Path.{_≡_, subst, _∙_}
+use mathlib.Core.Logic.{_≢_}
 use mathlib.Core.Bool.{Bool}
 use mathlib.Core.List.{List}
-use Prim.Native.Nat.{ℕ, suc, _+_, _-_, _*_, _≤_, _<_}
+use Prim.Native.Nat.{ℕ, _+_, _-_, _*_, _≤_, _<_}
 use native.Mathlib.Nat.{mul-le-mul-left}
 use native.Mathlib.Omega.{arith}
 use native.Mathlib.Decide.{ℕ-discrete, decLt}
 use lib.Dec.{T}
-use lib.ListN.{length, set, length-set}
+use lib.ListN.{length, length-set}
 use lib.Seq.{getD-set-same, getD-set-other}
 use Rattle.definitions.specs.Slots.{word, zeros, slot, putSlot, dropSlot, pushSlot, takeSlot}
 use Rattle.definitions.proofs.Slots.{part-ext, Apart, slot-set-other, length-putSlot, slot-put-same, slot-put-other, word-putSlot, length-dropSlot, word-dropSlot, slot-drop-below, slot-drop-above, slot-drop-last}

@@ -1,14 +1,14 @@
 -- What a loop knows at its head, and the laws for its start, turn, early stop and end: a first fault, a test at every number, one after
 -- another, and the members of a set. Assumes nothing.
-use mathlib.Core.Path.{_≡_, refl, sym, ap, ap₂, subst, _∙_}
+use mathlib.Core.Path.{_≡_, refl, sym, ap, subst, _∙_}
 use mathlib.Core.Bool.{Bool, true, false, not}
 use mathlib.Core.Option.{Option, none, some}
-use Prim.Native.Nat.{ℕ, zero, suc, _+_, _≤_, _<_, zero-le}
+use Prim.Native.Nat.{ℕ, _+_, _≤_, _<_, zero-le}
 use native.Mathlib.Nat.{le-antisymm, not-suc-le-zero}
 use native.Mathlib.Omega.{arith}
 use native.Mathlib.Decide.{ℕ-discrete}
 use lib.Dec.{T}
-use Rattle.definitions.specs.Bounded.{_and_, _implies_, allBelow, orElse, firstBelow}
+use Rattle.definitions.specs.Bounded.{allBelow, orElse, firstBelow}
 use Rattle.definitions.proofs.Bounded.{all-iff, true-of, of-true, false-of, not-false, first-zero, first-more, first-stop}
 
 -- ---- what the code tests with `!`

@@ -1,17 +1,16 @@
 -- What a move that is made shows: the tests that it passed, and the words that it leaves. Assumes nothing.
-use mathlib.Core.Path.{_≡_, refl, ap, subst, sym, _∙_}
+use mathlib.Core.Path.{_≡_, refl, ap, subst, sym}
 use mathlib.Core.Logic.{_≢_}
 use mathlib.Core.Bool.{Bool, true, false}
-use mathlib.Core.List.{List, [], _∷_}
+use mathlib.Core.List.{List, _∷_}
 use mathlib.Core.Option.{Option, none, some}
 use Prim.Native.Nat.{ℕ, _+_, _<_}
-use native.Mathlib.Omega.{arith}
 use lib.Dec.{T}
 use Rattle.definitions.specs.Bounded.{_and_, _is_, _isnt_, _below_, faultIf}
-use Rattle.definitions.specs.Model.{Line, Box, Model, boxAt, boxCount, kind, nil, parallel, replication, restriction, output as opOutput, input as opInput, expose as opExpose, hide as opHide, unhide as opUnhide}
+use Rattle.definitions.specs.Model.{Box, Model, boxAt, boxCount, kind, nil, parallel, replication, restriction, output as opOutput, input as opInput, expose as opExpose}
 use Rattle.definitions.specs.Record.{held, heldNumber, stampLimit, stamp, threads, sites, site, thread, subject, flag, setStamp, putThread, pushThread, takeThread, putSite, pushSite, setFlag, goto, recordOf, putRecord}
 use Rattle.definitions.specs.Start.{typeWords}
-use Rattle.definitions.specs.Moves.{Inside, drop, spread, new, copy, expose, hide, unhide, intra, Kind, inside, inter, unknown, kindOfMove, Move, Outcome, refused, made, Ends, need, onMade, siteWith, typesShare, valueIn, lineOf, onward, onwardWith, value1, value2, atLine, dropMove, spreadMove, newMove, copyMove, exposeMove, turnMove, intraMove, insideMove, interSites, interMove, insideAct, interAct, act}
+use Rattle.definitions.specs.Moves.{Inside, new, Kind, inside, inter, unknown, kindOfMove, Move, Outcome, refused, made, Ends, need, onMade, siteWith, typesShare, valueIn, lineOf, onward, onwardWith, value1, value2, atLine, dropMove, spreadMove, newMove, copyMove, exposeMove, turnMove, intraMove, insideMove, interSites, interMove, insideAct, interAct, act}
 use Rattle.definitions.proofs.Bounded.{tests, first-found, fault-some}
 
 -- ---- a refused move is not made; what a test in front of a move shows

@@ -1,6 +1,6 @@
 -- What each refusal of an image says: 1 to 5 of a block, and 6 to 9 of a record that does not fit, its box first and then the record;
 -- each is given only where the ones before it pass. Assumes nothing.
-use mathlib.Core.Path.{_≡_, refl, ap, sym, subst, _∙_}
+use mathlib.Core.Path.{_≡_, refl, sym}
 use mathlib.Core.Bool.{Bool, true, false, not}
 use mathlib.Core.List.{List}
 use mathlib.Core.Logic.{⊎-elim}

@@ -1,15 +1,15 @@
 -- The laws of parts of a list of words and of slots: what is put is what is read there, and all else is as it was. Assumes nothing.
-use mathlib.Core.Path.{_≡_, refl, ap, subst, sym, _∙_}
+use mathlib.Core.Path.{_≡_, ap, subst, sym, _∙_}
 use mathlib.Core.Logic.{_⊎_, inl, inr, _≢_}
-use mathlib.Core.List.{List, [], _∷_, _++_}
+use mathlib.Core.List.{List, _++_}
 use Prim.Native.Nat.{ℕ, zero, suc, _+_, _-_, _*_, _≤_, _<_}
 use native.Mathlib.Nat.{mul-le-mul-left}
 use native.Mathlib.Omega.{arith}
 use native.Mathlib.Decide.{ℕ-discrete, decLt}
-use lib.ListN.{length, getD, take, drop, set, replicate, length-append, length-take, length-drop, length-set, length-replicate, getD-replicate, List·getD-append, List·getD-eq-default}
-use lib.Seq.{getD-take, getD-drop, getD-append-add, ext-getD, length-take-le, getD-set-same, getD-set-other}
+use lib.ListN.{length, take, drop, set, replicate, length-append, length-take, length-drop, length-set, length-replicate, getD-replicate, List·getD-append, List·getD-eq-default}
+use lib.Seq.{getD-take, getD-drop, getD-append-add, ext-getD, length-take-le, getD-set-other}
 use Rattle.definitions.specs.Bounded.{flat}
-use Rattle.definitions.specs.Slots.{word, zeros, part, put, slot, putSlot, dropSlot, pushSlot, takeSlot}
+use Rattle.definitions.specs.Slots.{word, zeros, part, put, slot, putSlot, dropSlot}
 
 pub length-zeros : (n : ℕ) → length (zeros n) ≡ n
 unfolding zeros

@@ -1,21 +1,20 @@
 -- The state rules as records of facts: each test of the definitions and its record say the same. Assumes nothing.
 use mathlib.Core.Path.{_≡_, refl, ap, subst, sym, _∙_}
 use mathlib.Core.Logic.{_⊎_, inl, inr, _≢_, _↔_, ⊎-elim}
-use mathlib.Core.Bool.{Bool, true, false, not}
+use mathlib.Core.Bool.{Bool, false}
 use mathlib.Core.List.{List}
 use mathlib.Core.Option.{Option, none, some}
 use Prim.Native.Nat.{ℕ, _+_, _≤_, _<_}
 use native.Mathlib.Omega.{arith}
-use native.Mathlib.Decide.{ℕ-discrete}
 use lib.Dec.{T}
 use lib.ListN.{length}
 use lib.Seq.{ext-getD}
-use Rattle.definitions.specs.Bounded.{_and_, _or_, _implies_, _is_, _isnt_, _below_, _upto_, allBelow}
+use Rattle.definitions.specs.Bounded.{_and_, _is_, _below_, _upto_}
 use Rattle.definitions.specs.Slots.{word, zeros}
 use Rattle.definitions.specs.Model.{Box, Model, boxAt, lineCount, boxCount, listed, kind, boundAbove, owner}
 use Rattle.definitions.specs.Record.{heldNumber, heldStamp, stampLimit, stamp, threads, sites, site, thread, subject, flag, typeWord, line, binding, stateLength, recordOf, lastStamps}
 use Rattle.definitions.specs.StateRules.{clear, slotsFit, stampFits, heldFits, typeHeld, siteHeld, threadHeld, recordFits, stateFits}
-use Rattle.definitions.proofs.Bounded.{choice-iff, tests, and-iff, or-iff, is-iff, below-iff, upto-iff, decide, true-of, of-true, false-of, not-false}
+use Rattle.definitions.proofs.Bounded.{choice-iff, tests, and-iff, or-iff, is-iff, below-iff, upto-iff}
 use Rattle.definitions.proofs.Slots.{length-zeros, word-zeros}
 use Rattle.definitions.proofs.Arrays.{Array, Differ}
 

@@ -1,7 +1,7 @@
 -- A box set apart: the moves that do not name it, the answers to those, and models that differ in it alone. Assumes nothing.
 use mathlib.Core.Path.{_≡_}
 use mathlib.Core.Logic.{_≢_}
-use mathlib.Core.Bool.{Bool, true, false}
+use mathlib.Core.Bool.{true, false}
 use mathlib.Core.List.{List, [], _∷_}
 use Prim.Native.Nat.{ℕ, _<_}
 use Rattle.definitions.specs.Model.{Model, boxAt, boxCount}

@@ -1,6 +1,6 @@
 -- Start, step and run as calls on any image, any lent words and any moves: the answer, and what each lent buffer then holds. A
 -- refusal writes nothing. Assumes nothing.
-use mathlib.Core.Bool.{Bool, true, false, not}
+use mathlib.Core.Bool.{not}
 use mathlib.Core.List.{List, [], _∷_}
 use mathlib.Core.Option.{Option, none, some}
 use Prim.Native.Nat.{ℕ}

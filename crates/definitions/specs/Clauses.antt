@@ -1,5 +1,5 @@
 -- The clauses that an estimate must meet, each as a test at one name, site or line; and the first that is broken. Assumes nothing.
-use mathlib.Core.Bool.{Bool, true, false, not}
+use mathlib.Core.Bool.{Bool, not}
 use mathlib.Core.List.{List}
 use mathlib.Core.Option.{Option, none, some}
 use Prim.Native.Nat.{ℕ}
@@ -7,7 +7,7 @@ use lib.ListN.{length}
 use Rattle.definitions.specs.Bounded.{_and_, _implies_, _is_, _isnt_, allBelow, faultIf, orElse, firstBelow}
 use Rattle.definitions.specs.Sets.{has, forEach, within, meets}
 use Rattle.definitions.specs.Answer.{Refusal}
-use Rattle.definitions.specs.Model.{Site, Line, Box, Model, siteAt, lineAt, boxAt, siteCount, lineCount, boxCount, kind, restriction, output, input, expose, hide, unhide}
+use Rattle.definitions.specs.Model.{Site, Line, Model, siteAt, lineAt, boxAt, siteCount, lineCount, boxCount, kind, restriction, output, input, expose, hide, unhide}
 use Rattle.definitions.specs.Image.{nameCount, boxesOf, modelOf}
 use Rattle.definitions.specs.ReadModel.{readModel}
 use Rattle.definitions.specs.Estimate.{Estimate, estimateOf}

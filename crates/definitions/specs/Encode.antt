@@ -1,13 +1,12 @@
 -- The images of a model and of an estimate, built from the data. Assumes nothing.
-use mathlib.Core.Bool.{Bool, true, false}
-use mathlib.Core.List.{List, [], _∷_, _++_, map}
+use mathlib.Core.Bool.{true, false}
+use mathlib.Core.List.{List, [], _∷_, _++_}
 use Prim.Native.Nat.{ℕ, zero, suc, _+_, _*_, _/_, _%_, _^_}
 use lib.ListN.{length, take, drop}
 use Rattle.definitions.specs.Bounded.{_below_, tabulate, flat}
-use Rattle.definitions.specs.Words.{wordsOf}
 use Rattle.definitions.specs.Check.{checkOf}
 use Rattle.definitions.specs.Slots.{zeros}
-use Rattle.definitions.specs.Model.{Site, Line, Box, Model, boxAt, boxCount}
+use Rattle.definitions.specs.Model.{Site, Line, Box, Model, boxCount}
 use Rattle.definitions.specs.Estimate.{Estimate}
 
 -- a number as so many bytes, the lowest first

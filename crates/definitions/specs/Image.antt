@@ -1,6 +1,6 @@
 -- The model that an image holds. Assumes nothing.
-use mathlib.Core.Bool.{Bool, true, false}
-use mathlib.Core.List.{List, [], _∷_}
+use mathlib.Core.Bool.{true, false}
+use mathlib.Core.List.{List}
 use Prim.Native.Nat.{ℕ, zero, suc, _+_, _-_, _*_, _/_, _%_, _^_}
 use Rattle.definitions.specs.Bounded.{_below_, tabulate}
 use Rattle.definitions.specs.Words.{blockOf, countOf, dataWord}

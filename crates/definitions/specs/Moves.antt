@@ -1,11 +1,10 @@
 -- The nine moves. A move inside a box is a function of the name kinds, that box's contents and its record; inter of two such boxes.
 -- Assumes nothing.
 use mathlib.Core.Bool.{Bool, true, false}
-use mathlib.Core.List.{List, [], _∷_}
+use mathlib.Core.List.{List, _∷_}
 use mathlib.Core.Option.{Option, none, some}
 use Prim.Native.Nat.{ℕ, zero, suc, _+_}
 use Rattle.definitions.specs.Bounded.{_and_, _or_, _is_, _isnt_, _below_, anyBelow, faultIf, firstBelow}
-use Rattle.definitions.specs.Slots.{word}
 use Rattle.definitions.specs.Model.{Line, Box, Model, lineAt, boxAt, boxCount, kind, nil, parallel, replication, restriction, output as opOutput, input as opInput, expose as opExpose, hide as opHide, unhide as opUnhide}
 use Rattle.definitions.specs.Record.{held, heldNumber, stampLimit, stamp, threads, sites, site, thread, subject, flag, typeWord, line, binding, setStamp, putThread, pushThread, takeThread, putSite, pushSite, setFlag, goto, bind, recordOf, putRecord}
 use Rattle.definitions.specs.Start.{typeWords, freeHeld}

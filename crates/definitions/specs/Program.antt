@@ -5,8 +5,7 @@ use Prim.Native.Nat.{ℕ, zero, suc, _+_, _/_, _%_}
 use Prim.Native.Char.{code}
 use Prim.Native.String.{String, [] as []ˢ, _∷_ as _∷ˢ_}
 use Rattle.definitions.specs.Bounded.{_below_}
-use Rattle.definitions.specs.Answer.{Refusal}
-use Rattle.definitions.specs.Clauses.{Broken, Verdict, accepted, breaks, refusedModel, refusedEstimate}
+use Rattle.definitions.specs.Clauses.{Verdict, accepted, breaks, refusedModel, refusedEstimate}
 
 -- the bytes of a text in ASCII: the code of each character
 unfoldable pub bytesOf : String → List ℕ

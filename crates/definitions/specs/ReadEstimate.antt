@@ -2,10 +2,10 @@
 -- 2, 3, 4, 5. Assumes nothing.
 use mathlib.Core.Bool.{Bool, true, false}
 use mathlib.Core.List.{List}
-use mathlib.Core.Option.{Option, none, some}
+use mathlib.Core.Option.{Option}
 use Prim.Native.Nat.{ℕ, _+_, _*_, _/_, _^_}
 use lib.ListN.{length}
-use Rattle.definitions.specs.Bounded.{_and_, _or_, _implies_, _is_, _isnt_, _below_, _upto_, allBelow, faultIf, orElse, firstBelow}
+use Rattle.definitions.specs.Bounded.{_and_, _or_, _is_, _isnt_, _below_, _upto_, allBelow, faultIf, orElse, firstBelow}
 use Rattle.definitions.specs.Words.{countOf, dataWord}
 use Rattle.definitions.specs.Answer.{Refusal, refusal}
 use Rattle.definitions.specs.ReadModel.{blockFault}

@@ -10,8 +10,8 @@ use Rattle.definitions.specs.Sets.{has, forEach, size}
 use Rattle.definitions.specs.Words.{blockOf, numberOf, kindOf, boxOf, countOf, spareOf, dataWord}
 use Rattle.definitions.specs.Check.{checkOf, checkHeld}
 use Rattle.definitions.specs.Answer.{Refusal, refusal}
-use Rattle.definitions.specs.Model.{Site, Line, Box, Model, siteAt, lineAt, boxAt, siteCount, lineCount, boxCount, listed, kind, isFree, nil, parallel, restriction, output, input, expose, hide, unhide, hasChild, binds, bindsIn, boundAbove}
-use Rattle.definitions.specs.Image.{nameCount, boxesOf, lineBlocks, sitesBlock, modelOf}
+use Rattle.definitions.specs.Model.{Line, Box, Model, siteAt, lineAt, boxAt, siteCount, lineCount, boxCount, listed, kind, isFree, nil, parallel, restriction, output, input, expose, hide, unhide, hasChild, binds, bindsIn, boundAbove}
+use Rattle.definitions.specs.Image.{boxesOf, lineBlocks, sitesBlock, modelOf}
 
 -- ---- 1 to 5: the blocks
 

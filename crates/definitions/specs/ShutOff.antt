@@ -1,7 +1,6 @@
 -- When a box is shut off; the question, and the refused block. Assumes nothing.
 use mathlib.Core.Bool.{Bool, true, false, not}
 use mathlib.Core.List.{List, []}
-use mathlib.Core.Option.{Option, none, some}
 use Prim.Native.Nat.{ℕ}
 use Rattle.definitions.specs.Bounded.{_and_, _implies_, _isnt_, _below_, _upto_, allBelow}
 use Rattle.definitions.specs.Sets.{forSome, meets}

@@ -1,5 +1,5 @@
 -- Parts of a list of words: an array of records is so many slots of w words each, from word `base`. Assumes nothing.
-use mathlib.Core.List.{List, [], _∷_, _++_}
+use mathlib.Core.List.{List, _++_}
 use Prim.Native.Nat.{ℕ, _+_, _-_, _*_}
 use lib.ListN.{length, getD, take, drop, set, replicate}
 

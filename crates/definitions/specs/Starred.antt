@@ -2,7 +2,7 @@
 use mathlib.Core.Bool.{Bool, true, false}
 use mathlib.Core.List.{List, [], _∷_}
 use mathlib.Core.Option.{Option, none, some}
-use Prim.Native.Nat.{ℕ, zero, suc, _+_, _^_}
+use Prim.Native.Nat.{ℕ, _+_, _^_}
 use lib.ListN.{getD}
 use Rattle.definitions.specs.Bounded.{_and_, _is_, allBelow, tabulate}
 use Rattle.definitions.specs.Model.{Site, Line, Box, Model}
@@ -11,7 +11,7 @@ use Rattle.definitions.specs.Clauses.{Broken, broken, firstBroken}
 use Rattle.definitions.specs.Record.{thread, threads, line, binding, recordOf}
 use Rattle.definitions.specs.Start.{startState, freeHeld}
 use Rattle.definitions.specs.Moves.{Move}
-use Rattle.definitions.specs.Calls.{Ran, makes}
+use Rattle.definitions.specs.Calls.{makes}
 use Rattle.definitions.specs.Encode.{encodeModel, encodeEstimate}
 
 -- ---- model K. Names: 0 x, 1 z, 3 u, 4 v, 5 c are free, 2 y is received

@@ -1,7 +1,7 @@
 -- The state rules: for one record, given every box's last stamp; and for a whole state. Assumes nothing.
-use mathlib.Core.Bool.{Bool, true, false, not}
+use mathlib.Core.Bool.{Bool, true, false}
 use mathlib.Core.List.{List}
-use mathlib.Core.Option.{Option, none, some}
+use mathlib.Core.Option.{none, some}
 use Prim.Native.Nat.{ℕ, _+_}
 use lib.ListN.{length}
 use Rattle.definitions.specs.Bounded.{_and_, _or_, _implies_, _is_, _isnt_, _below_, _upto_, allBelow}

@@ -11,7 +11,7 @@ use lib.Seq.{getD-set-same, getD-set-other}
 use Rattle.definitions.specs.Sets.{has}
 use Rattle.definitions.specs.Slots.{word, slot, putSlot, pushSlot, takeSlot}
 use Rattle.definitions.specs.Estimate.{Estimate}
-use Rattle.definitions.specs.Record.{heldNumber, threads, sites, site, thread, subject, flag, binding, setStamp, putThread, pushThread, takeThread, putSite, pushSite, setFlag, goto, bind}
+use Rattle.definitions.specs.Record.{heldNumber, threads, sites, site, thread, subject, binding, setStamp, putThread, pushThread, takeThread, putSite, pushSite, setFlag, goto, bind}
 use Rattle.definitions.specs.Start.{typeWords}
 use Rattle.definitions.proofs.Slots.{Apart, length-putSlot, slot-put-same, slot-put-other, word-putSlot}
 use Rattle.definitions.proofs.Arrays.{Outside, slots-frame, push-length, push-outside, push-count, push-same, push-other, take-length, take-outside, take-count, take-below, take-above}

@@ -10,9 +10,9 @@ use lib.ListN.{length, length-set}
 use lib.Seq.{getD-set-other}
 use Rattle.definitions.specs.Bounded.{_is_, _isnt_, _and_, anyBelow}
 use Rattle.definitions.specs.Sets.{has, meets}
-use Rattle.definitions.specs.Model.{Line, Box, Model, boxAt, boxCount, kind, boundAbove, restriction, output as opOutput, input as opInput, hide as opHide, unhide as opUnhide}
+use Rattle.definitions.specs.Model.{Line, Box, Model, boxAt, boxCount, kind, boundAbove, output as opOutput, input as opInput, hide as opHide, unhide as opUnhide}
 use Rattle.definitions.specs.Estimate.{Estimate}
-use Rattle.definitions.specs.Record.{held, heldNumber, stamp, threads, sites, site, thread, subject, flag, typeWord, line, binding, setStamp, putThread, goto, bind}
+use Rattle.definitions.specs.Record.{held, heldNumber, stamp, threads, sites, site, thread, subject, typeWord, line, binding, setStamp, putThread, goto, bind}
 use Rattle.definitions.specs.Start.{freeHeld}
 use Rattle.definitions.specs.Moves.{Inside, drop, spread, new, copy, expose, hide, unhide, intra, made, Ends, typesShare, valueIn, lineOf, onward, onwardWith, value1, value2, dropMove, spreadMove, newMove, copyMove, exposeMove, turnMove, intraMove, insideMove, interMove}
 use Rattle.definitions.proofs.Bounded.{and-iff, any-iff, is-iff, isnt-iff, of-true, not-false}

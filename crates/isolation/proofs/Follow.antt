@@ -1,24 +1,22 @@
 -- P6 and P7: a list of moves in one model, and the list with the moves that name a box inside the group struck out in another model
 -- that is equal outside, get the same answers and leave the same records outside. Assumes nothing.
 use mathlib.Core.Path.{_≡_, refl, ap, ap₂, subst, sym, _∙_}
-use mathlib.Core.Logic.{_⊎_, inl, inr, _≢_, ⊎-elim}
-use mathlib.Core.Bool.{Bool, true, false, not}
+use mathlib.Core.Bool.{Bool, true, false}
 use mathlib.Core.List.{List, [], _∷_}
-use mathlib.Core.Option.{Option, none, some}
-use Prim.Native.Nat.{ℕ, _+_, _*_, _≤_, _<_}
+use Prim.Native.Nat.{ℕ, _≤_, _<_}
 use native.Mathlib.Omega.{arith}
 use native.Mathlib.Decide.{ℕ-discrete}
 use lib.Dec.{T}
 use lib.ListN.{length}
-use Rattle.definitions.specs.Bounded.{_and_, _or_, _is_, _isnt_, _below_}
-use Rattle.definitions.specs.Model.{Box, Model, boxAt, boxCount}
+use Rattle.definitions.specs.Bounded.{_and_, _or_, _isnt_, _below_}
+use Rattle.definitions.specs.Model.{Model, boxAt, boxCount}
 use Rattle.definitions.specs.Record.{threads, stateLength, recordOf, putRecord}
 use Rattle.definitions.specs.Moves.{Inside, Kind, inside, inter, unknown, kindOfMove, Move, Outcome, refused, made, Ends, need, onMade, insideMove, interMove, insideAct, interAct, act}
 use Rattle.definitions.specs.Calls.{outcomeNumber, outcomeWords, Ran, makes}
 use Rattle.definitions.proofs.Bounded.{tests, same-test}
 use Rattle.isolation.specs.Group.{namesGroup, struckBy, leftBy}
 use Rattle.isolation.proofs.KeepState.{put-record-same, put-record-other, put-record-length}
-use Rattle.definitions.proofs.Made.{refused-made, inside-act, inter-act, act-made, InsideMade, InterActMade}
+use Rattle.definitions.proofs.Made.{refused-made, inside-act, inter-act}
 
 module _ (group : ℕ → Bool) where
   -- two states have the same records outside the group

@@ -14,15 +14,15 @@ use Rattle.definitions.specs.Answer.{Refusal, unplaced, answerNumber}
 use Rattle.definitions.specs.Model.{Model}
 use Rattle.definitions.specs.Image.{modelOf}
 use Rattle.definitions.specs.ReadModel.{readModel}
-use Rattle.definitions.specs.Estimate.{Estimate, estimateOf}
-use Rattle.definitions.specs.Clauses.{Verdict, accepted, check}
+use Rattle.definitions.specs.Estimate.{estimateOf}
+use Rattle.definitions.specs.Clauses.{accepted, check}
 use Rattle.definitions.specs.ShutOff.{isShutOff, question}
 use Rattle.definitions.specs.StateRules.{stateFits}
 use Rattle.definitions.specs.Record.{stateLength}
 use Rattle.definitions.specs.Start.{startState}
 use Rattle.definitions.specs.Moves.{Kind, inside, inter, unknown, kindOfMove, Move, Outcome, refused, made, namesBox, insideAct, interAct, act}
-use Rattle.definitions.specs.Calls.{start, written, outcomeWords, outcomeRefusal, stateRefusal, step, Ran, steps, makes, runRefusal, run}
-use Rattle.definitions.proofs.Bounded.{left-none, right-none, fault-none, decide, or-iff, is-iff, true-of, false-of, of-true}
+use Rattle.definitions.specs.Calls.{start, outcomeWords, outcomeRefusal, stateRefusal, step, Ran, steps, makes, runRefusal, run}
+use Rattle.definitions.proofs.Bounded.{left-none, right-none, fault-none, or-iff, is-iff, true-of, false-of}
 use Rattle.definitions.proofs.ReadModel.{valid-image}
 use Rattle.definitions.proofs.StateRules.{StateFits, state-iff}
 use Rattle.definitions.proofs.Made.{inter-act}
@@ -32,7 +32,7 @@ use Rattle.isolation.specs.Covers.{Covers}
 use Rattle.definitions.proofs.Clauses.{broken-iff}
 use Rattle.isolation.proofs.Shut.{inter-refused}
 use Rattle.isolation.proofs.Follow.{outcome-good}
-use Rattle.isolation.proofs.Rule3.{Yes, question-yes, CheckAccepted, check-accepted, start-words, start-read, run-words, steps-are-moves, Good, good-start, good-next, one, image-valid, image-accepted, image-shut, image-start}
+use Rattle.isolation.proofs.Rule3.{question-yes, check-accepted, start-words, start-read, run-words, steps-are-moves, Good, good-start, good-next, one, image-shut}
 
 -- a property that a made move keeps holds after any list of moves
 makes-keep : (m : Model) (P : List ℕ → Type 0) → ((st : List ℕ) → P st → (v : Move) (w : List ℕ) → act m st v ≡ made w → P w)

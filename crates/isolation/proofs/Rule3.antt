@@ -1,17 +1,17 @@
 -- Rule 3, entire: from the question's yes to equal answers and equal records. Assumes nothing.
 use mathlib.Core.Path.{_≡_, refl, ap, ap₂, subst, sym, _∙_}
-use mathlib.Core.Logic.{_⊎_, inl, inr, _≢_}
+use mathlib.Core.Logic.{_≢_}
 use mathlib.Core.Bool.{Bool, true, false, not}
 use mathlib.Core.List.{List, [], _∷_}
 use mathlib.Core.Option.{Option, none, some}
-use Prim.Native.Nat.{ℕ, _+_, _*_, _≤_, _<_}
+use Prim.Native.Nat.{ℕ, _<_}
 use native.Mathlib.Omega.{arith}
 use native.Mathlib.Decide.{decLt}
 use lib.Dec.{T, T-not}
 use lib.ListN.{length}
-use Rattle.definitions.specs.Bounded.{_or_, _is_, _isnt_, _below_, faultIf, orElse}
+use Rattle.definitions.specs.Bounded.{_is_, _isnt_, _below_, faultIf, orElse}
 use Rattle.definitions.specs.Answer.{Refusal, unplaced, answerNumber}
-use Rattle.definitions.specs.Model.{Model, boxAt, boxCount}
+use Rattle.definitions.specs.Model.{Model, boxCount}
 use Rattle.definitions.specs.Image.{nameCount, boxesOf, modelOf}
 use Rattle.definitions.specs.ReadModel.{readModel}
 use Rattle.definitions.specs.Estimate.{Estimate, estimateOf}
@@ -21,10 +21,10 @@ use Rattle.definitions.specs.ShutOff.{shutOff, Reply, notAccepted, nobody, isSh
 use Rattle.definitions.specs.Record.{stateLength, recordOf}
 use Rattle.definitions.specs.StateRules.{stateFits}
 use Rattle.definitions.specs.Start.{startRecord, startState}
-use Rattle.definitions.specs.Moves.{Kind, inside, inter, unknown, kindOfMove, Move, Outcome, refused, made, namesBox, act}
-use Rattle.definitions.specs.Calls.{Stepped, written, startRefusal, start, outcomeNumber, outcomeWords, outcomeRefusal, stateRefusal, step, Ran, steps, makes, Run, runRefusal, run}
+use Rattle.definitions.specs.Moves.{Move, Outcome, refused, made, namesBox, act}
+use Rattle.definitions.specs.Calls.{written, startRefusal, start, outcomeNumber, outcomeWords, outcomeRefusal, stateRefusal, step, Ran, steps, makes, run}
 use Rattle.definitions.specs.Apart.{struck, answersLeft, EqualBut}
-use Rattle.definitions.proofs.Bounded.{tests, left-none, right-none, fault-none, none-fault, true-of, of-true, false-of, is-iff, isnt-iff}
+use Rattle.definitions.proofs.Bounded.{tests, left-none, none-fault, of-true, false-of, is-iff, isnt-iff}
 use Rattle.definitions.proofs.Valid.{Valid}
 use Rattle.definitions.proofs.Image.{model-count}
 use Rattle.definitions.proofs.ReadModel.{valid-image}
@@ -38,7 +38,7 @@ use Rattle.isolation.proofs.Covered.{act-covered}
 use Rattle.isolation.proofs.Shut.{GroupShut, shut-group, inter-same-side}
 use Rattle.isolation.specs.Rule3.{Setting, Same, Rule3, Rule3Run}
 use Rattle.isolation.specs.Group.{namesGroup, struckBy, leftBy}
-use Rattle.isolation.proofs.Follow.{SameOutside, EqualOutside, Reached, AlikeRuns, outcome-good, struck-alike}
+use Rattle.isolation.proofs.Follow.{SameOutside, EqualOutside, Reached, outcome-good, struck-alike}
 
 -- ---- what an acceptance and a yes say
 

@@ -4,7 +4,7 @@ use mathlib.Core.Bool.{Bool, true, false}
 use mathlib.Core.List.{List, [], _∷_}
 use Prim.Native.Nat.{ℕ}
 use Rattle.definitions.specs.Bounded.{_or_}
-use Rattle.definitions.specs.Moves.{Kind, inside, inter, unknown, kindOfMove, Move}
+use Rattle.definitions.specs.Moves.{inside, inter, unknown, kindOfMove, Move}
 
 -- the move names a box of the group; the moves left; the answers to them
 module _ (group : ℕ → Bool) where

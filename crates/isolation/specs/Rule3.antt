@@ -1,9 +1,9 @@
 -- Rule 3: a box shown shut off cannot be told apart. The statement, over the calls on images. Assumes nothing.
 use mathlib.Core.Path.{_≡_}
 use mathlib.Core.Logic.{_≢_}
-use mathlib.Core.Bool.{Bool, true, false}
+use mathlib.Core.Bool.{true}
 use mathlib.Core.List.{List}
-use mathlib.Core.Option.{Option, none}
+use mathlib.Core.Option.{none}
 use Prim.Native.Nat.{ℕ, _<_}
 use Rattle.definitions.specs.Image.{modelOf}
 use Rattle.definitions.specs.ShutOff.{question, isShutOff}

@@ -1,7 +1,7 @@
 -- What the examples compute: the question, the checker, the models that the images hold, and moves made from their starts. Assumes nothing.
 use mathlib.Core.Path.{_≡_, refl}
 use mathlib.Core.Bool.{true, false}
-use mathlib.Core.List.{List, [], _∷_}
+use mathlib.Core.List.{[], _∷_}
 use Rattle.definitions.specs.Bounded.{_and_, _or_, _implies_, _is_, _isnt_, _below_, _upto_, allBelow, anyBelow, firstBelow, tabulate, flat}
 use Rattle.definitions.specs.Sets.{has, forEach, forSome, within, meets, lowest, membersBelow, members, sizeBelow, size}
 use Rattle.definitions.specs.Words.{byteAt, wordAt, wordsOf, blockOf, numberOf, kindOf, boxOf, countOf, spareOf, dataWord}

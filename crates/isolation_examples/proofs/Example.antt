@@ -4,13 +4,13 @@ use mathlib.Core.Path.{_≡_, refl, ap, ap₂, sym, _∙_}
 use mathlib.Core.Bool.{false}
 use mathlib.Core.Logic.{_≢_}
 use mathlib.Core.List.{List, [], _∷_}
-use mathlib.Core.Option.{Option, none}
+use mathlib.Core.Option.{none}
 use Prim.Native.Nat.{ℕ, zero, suc, _<_}
 use native.Mathlib.Omega.{arith}
 use lib.ListN.{length}
 use Rattle.definitions.specs.Bounded.{_isnt_, orElse}
 use Rattle.definitions.specs.Answer.{unplaced}
-use Rattle.definitions.specs.Model.{Model, boxAt, boxCount}
+use Rattle.definitions.specs.Model.{Model, boxAt}
 use Rattle.definitions.specs.Image.{modelOf}
 use Rattle.definitions.specs.ReadModel.{readModel}
 use Rattle.definitions.specs.Clauses.{check, accepted}

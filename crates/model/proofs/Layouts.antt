@@ -1,10 +1,10 @@
 -- Laws of a layout: the names by kind, a box's row, and the rows of all boxes. Assumes nothing.
 use mathlib.Core.Path.{_≡_, refl, sym, ap, ap₂, _∙_, subst}
-use mathlib.Core.Bool.{Bool, true, false}
+use mathlib.Core.Bool.{Bool}
 use mathlib.Core.List.{List}
 use mathlib.Core.Logic.{_⊎_, inl, inr, ⊎-elim}
-use mathlib.Core.Option.{Option, none, some}
-use Prim.Native.Nat.{ℕ, zero, suc, _+_, _-_, _*_, _/_, _%_, _^_, _≤_, _<_, zero-le}
+use mathlib.Core.Option.{none}
+use Prim.Native.Nat.{ℕ, _+_, _-_, _*_, _≤_, _<_, zero-le}
 use native.Mathlib.Nat.{le-refl, le-antisymm}
 use native.Mathlib.Omega.{arith}
 use native.Mathlib.Decide.{ℕ-discrete}
@@ -17,14 +17,13 @@ use mir.Val.{Fits}
 use Rattle.definitions.specs.Bounded.{_and_, _or_, _is_, _below_, anyBelow}
 use Rattle.definitions.specs.Sets.{has}
 use Rattle.definitions.specs.Words.{blockOf, countOf, dataWord}
-use Rattle.definitions.specs.Model.{Line, Box, lineAt, lineCount, binds, bindsIn, kind}
+use Rattle.definitions.specs.Model.{Line, lineAt, binds, bindsIn, kind}
 use Rattle.definitions.specs.Image.{nameCount, boxesOf, kindsOf, lineBlocks, sitesBlock, linesOf, boxOfImage}
 use Rattle.definitions.specs.ReadModel.{blocksFault}
 use Rattle.definitions.proofs.Bounded.{and-iff, or-iff, is-iff, below-iff, any-cong, false-of, same-test}
 use Rattle.definitions.proofs.Sets.{has-none}
-use Rattle.definitions.proofs.Image.{model-names, model-kind, kind-past, box-lines, box-line}
+use Rattle.definitions.proofs.Image.{model-kind, box-lines, box-line}
 use Rattle.definitions.proofs.ReadModel.{Blocks, blocks-iff, some-block, most-blocks, sites-first, sites-next, lines-most, lines-there}
-use Rattle.model.specs.declared.Layout.{Layout}
 use Rattle.model.specs.declared.laying.Kinds.{Kinds}
 use Rattle.model.specs.declared.laying.Row.{Row}
 use Rattle.model.specs.Parts.{SetOf, LinesThere, putIf, isBelow, kindIn, boundIn, lineOf, lineTotal}

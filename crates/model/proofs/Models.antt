@@ -13,8 +13,8 @@ use mir.Val.{Fits}
 use Rattle.definitions.specs.Bounded.{_and_, _or_, _is_, _below_, anyBelow, faultIf, orElse}
 use Rattle.definitions.specs.Sets.{has}
 use Rattle.definitions.specs.Words.{blockOf, countOf}
-use Rattle.definitions.specs.Answer.{Refusal, refusal}
-use Rattle.definitions.specs.Model.{Site, Line, Box, Model, siteAt, lineAt, boxAt, siteCount, lineCount, boxCount, listed, isFree, kind, binds, bindsIn, owner}
+use Rattle.definitions.specs.Answer.{Refusal}
+use Rattle.definitions.specs.Model.{Site, Line, Box, Model, siteAt, lineAt, boxAt, siteCount, lineCount, boxCount, listed, isFree, kind, bindsIn, owner}
 use Rattle.definitions.specs.Image.{siteRecord, nameCount, boxesOf, kindsOf, modelOf}
 use Rattle.definitions.specs.ReadModel.{usedBefore, siteFits, boundBefore, reachFits, firstMisfit, lengthFault, blocksFault, modelFault, readModel}
 use Rattle.definitions.proofs.Bounded.{is-iff, below-iff, any-cong, true-of, false-of, of-true, not-false, each-none, none-fault}

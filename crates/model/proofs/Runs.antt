@@ -13,7 +13,7 @@ use borrow.Author.Needs.{needs}
 use lib.Dec.{T, eqb}
 use lib.ListN.{length, getD, set, length-set}
 use lib.Seq.{getD-set-same, getD-set-other}
-use Rattle.definitions.specs.Bounded.{_and_, _or_, _is_, _isnt_, _below_, _implies_, anyBelow, faultIf}
+use Rattle.definitions.specs.Bounded.{_or_, _is_, _isnt_, _below_, _implies_, anyBelow, faultIf}
 use Rattle.definitions.specs.Sets.{has}
 use Rattle.definitions.specs.Words.{wordAt, blockOf, countOf, dataWord}
 use Rattle.definitions.specs.Answer.{Refusal, refusal}

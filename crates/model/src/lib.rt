@@ -1,5 +1,4 @@
 // A model image, read where it stands: its layout, or the refusal with its number and two places; and views on what it holds.
-ghost use mathlib.Core.Path.{_≡_};
 use sets::NameNo;
 
 mod answers;

@@ -12,7 +12,7 @@ use Rattle.definitions.specs.Image.{nameCount}
 use Rattle.definitions.specs.ReadModel.{readModel}
 use Rattle.definitions.proofs.ReadModel.{blocks-iff}
 use Rattle.model.specs.declared.Answer.{Answer}
-use Rattle.model.specs.declared.Answer.the-variants.{Held, Refused}
+use Rattle.model.specs.declared.Answer.the-variants.{Held}
 use Rattle.model.specs.declared.Layout.{Layout}
 use Rattle.model.specs.Records.{readOf}
 use Rattle.model.specs.Parts.{LinesAt, SitesAt}

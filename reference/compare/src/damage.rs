@@ -11,7 +11,7 @@ use bm::write::put_word;
 use bm::{Model, NameNo, NameSet};
 
 /// A pair of images, and the source of what happens to them.
-pub struct Hand {
+pub struct DamagedPair {
     rng: Rng,
     pub model: Vec<u8>,
     pub estimate: Vec<u8>,
@@ -25,37 +25,37 @@ struct Place<'a> {
     block: &'a mut [u8; BLOCK],
 }
 
-type Way = fn(&mut Hand);
+type Way = fn(&mut DamagedPair);
 
 /// The ways of damage, each with its weight: how often it is taken among all.
 const WAYS: [(usize, Way); 15] = [
-    (14, Hand::plain),
-    (3, Hand::odd_length),
-    (7, Hand::blocks_more_or_fewer),
-    (5, Hand::exchange),
-    (4, Hand::exchange_contents),
-    (4, Hand::wrong_check),
-    (7, Hand::heading),
-    (12, Hand::count),
-    (8, Hand::name_kind),
-    (10, Hand::site),
-    (22, Hand::line),
-    (4, Hand::stray),
-    (25, Hand::take_member),
-    (60, Hand::starve_line),
-    (24, Hand::add_member),
+    (14, DamagedPair::plain),
+    (3, DamagedPair::odd_length),
+    (7, DamagedPair::blocks_more_or_fewer),
+    (5, DamagedPair::exchange),
+    (4, DamagedPair::exchange_contents),
+    (4, DamagedPair::wrong_check),
+    (7, DamagedPair::heading),
+    (12, DamagedPair::count),
+    (8, DamagedPair::name_kind),
+    (10, DamagedPair::site),
+    (22, DamagedPair::line),
+    (4, DamagedPair::stray),
+    (25, DamagedPair::take_member),
+    (60, DamagedPair::take_asked_member),
+    (24, DamagedPair::add_member),
 ];
 
-impl Hand {
+impl DamagedPair {
     /// A damaged copy of a pair: damaged once or a few times, until something differs.
-    pub fn damaged(rng: Rng, model: &[u8], estimate: &[u8]) -> Hand {
-        let mut hand = Hand { rng, model: model.to_vec(), estimate: estimate.to_vec() };
-        let mut left: u8 = [1, 1, 1, 2, 2, 3][hand.rng.below(6)];
-        while left > 0 || (hand.model == model && hand.estimate == estimate) {
-            hand.once();
+    pub fn damaged(rng: Rng, model: &[u8], estimate: &[u8]) -> DamagedPair {
+        let mut pair = DamagedPair { rng, model: model.to_vec(), estimate: estimate.to_vec() };
+        let mut left: u8 = [1, 1, 1, 2, 2, 3][pair.rng.below(6)];
+        while left > 0 || (pair.model == model && pair.estimate == estimate) {
+            pair.once();
             left = left.saturating_sub(1);
         }
-        hand
+        pair
     }
 
     /// One way of damage; then, if the model is still read, sometimes an estimate made anew.
@@ -122,7 +122,7 @@ impl Hand {
 }
 
 /// Damage that does not ask what stands at the place.
-impl Hand {
+impl DamagedPair {
     /// A byte or a bit anywhere, mostly with the block's check made anew.
     fn plain(&mut self) {
         let (word, bit, sealed) = (self.rng.word(), self.rng.percent(50), self.rng.percent(90));
@@ -196,7 +196,7 @@ impl Hand {
 }
 
 /// Damage to a field.
-impl Hand {
+impl DamagedPair {
     /// Number, kind, box or the zeros of a heading.
     fn heading(&mut self) {
         let kind = self.any_kind();
@@ -257,7 +257,7 @@ impl Hand {
     }
 
     /// A member fewer in a set that some line asks for; rare operations come as often as others.
-    fn starve_line(&mut self) {
+    fn take_asked_member(&mut self) {
         let operation = [3, 4, 5, 5, 6, 7, 8, 8][self.rng.below(8)];
         let Some((box_no, record)) = self.line_of(operation) else { return };
         let (block, word) = asked_set(box_no, &record);

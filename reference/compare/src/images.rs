@@ -5,7 +5,7 @@ use bm::cases::{self, Case};
 use bm::cases::rng::Rng;
 use bm::{Model, Refusal, ShutOff, Verdict, calls};
 
-use crate::damage::Hand;
+use crate::damage::DamagedPair;
 use crate::proved;
 use crate::tally::Tally;
 
@@ -94,7 +94,7 @@ fn compare_damaged(pairs: &[Case]) -> (u64, Tally) {
         let any = rng.percent(10);
         let case = if any { &pairs[rng.below(pairs.len())] } else { sound[rng.below(sound.len())] };
         let h = some_box(&mut rng, case);
-        let Hand { model, estimate, .. } = Hand::damaged(rng, &case.model, &case.estimate);
+        let DamagedPair { model, estimate, .. } = DamagedPair::damaged(rng, &case.model, &case.estimate);
         let Compared { checked, asked, differences } = compared(&model, &estimate, h);
         tally.note(checked, asked);
         found += differences;

@@ -1,6 +1,6 @@
 -- `report::line` meets its contract: each word and number is behind the last. Assumes nothing.
 use borrow.Author.Needs.{needs}
-use Rattle.report.proofs.Laws.{room-of, word-line, word-three, line-accepted, line-breaks, line-model, line-estimate}
+use Rattle.report.proofs.Laws.{word-line, word-three, line-accepted, line-breaks, line-model, line-estimate}
 use Rattle.definitions.specs.Program.{bytesOf}
 use mathlib.Core.Path.{refl}
 use lib.Dec.{lit≤}

@@ -1,6 +1,6 @@
 -- `report::with_three` meets its contract: each word and number is behind the last. Assumes nothing.
 use borrow.Author.Needs.{needs}
-use Rattle.report.proofs.Laws.{three-done, room-of}
+use Rattle.report.proofs.Laws.{three-done}
 use Rattle.report.proofs.with_three.Statement.{statement}
 use Rattle.report.proofs.with_three.Tie as tie
 

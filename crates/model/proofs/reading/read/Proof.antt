@@ -1,5 +1,4 @@
 -- `model::reading::read` meets its contract. Assumes nothing.
-use borrow.Author.Needs.{needs}
 use Rattle.model.proofs.Models.{refused-not, models}
 use Rattle.model.proofs.reading.read.Statement.{statement}
 use Rattle.model.proofs.reading.read.Tie as tie
