@@ -16,8 +16,8 @@ use Rattle.definitions.specs.Image.{siteRecord, lineRecord, nameCount, boxesOf,
 use Rattle.definitions.specs.Estimate.{Estimate, estimateOf}
 use Rattle.definitions.specs.Clauses as cl
 use Rattle.definitions.specs.ShutOff as shut
-use Rattle.definitions.proofs.Bounded.{is-iff, isnt-iff, below-iff, and-iff, true-of, of-true, false-of, all-cong}
-use Rattle.definitions.proofs.Sets.{forEach-iff}
+use Rattle.definitions.proofs.Bounded.{is-iff, isnt-iff, below-iff, and-iff, true-of, of-true, false-of}
+use Rattle.definitions.proofs.Sets.{forEach-iff, forEach-cong}
 use Rattle.definitions.proofs.Image.{model-count, model-box, model-kinds, model-names, box-sites, box-lines}
 use Rattle.definitions.proofs.Loops.{fails, holds, Passed, passed-start, passed-turn, passed-stop, passed-end, else-stop, else-go, passing-start, passing-turn, passing-stop, passing-end}
 use Rattle.model.specs.declared.Site.{Site}
@@ -25,7 +25,7 @@ use Rattle.model.specs.declared.Line.{Line}
 use Rattle.model.specs.declared.Layout.{Layout}
 use Rattle.model.specs.Records.{siteIn, lineIn}
 use Rattle.model.specs.Holds.{Holds, OfKind}
-use Rattle.clauses.specs.Asks.{Few, sentIn, receivedIn, crossedIn, sparedIn, typedIn, Asked, faceAsk, facesAsk, otherAsk, boxesAsk, nameAsk, restAsk, Needs}
+use Rattle.clauses.specs.Asks.{Few, sentIn, receivedIn, crossedIn, allHold, typedIn, Asked, faceAsk, facesAsk, otherAsk, boxesAsk, nameAsk, restAsk, Needs}
 use Rattle.clauses.proofs.Members.{small-rho}
 use Rattle.clauses.proofs.Unions.{within-none, rest-asks}
 use Rattle.analysis.specs.declared.Broken.{Broken}
@@ -179,12 +179,6 @@ arm-none e t b i l f3 f4 f5 f6 f7 f8 =
 
 -- ---- what clause 6 asks of a line, by the table
 
-for-each-as : (s : ℕ) (p q : ℕ → Bool) → ((n : ℕ) → n < 64 → p n ≡ q n) → forEach s p ≡ forEach s q
-unfolding forEach
-for-each-as s p q f =
-    all-cong 64 (λ n. elim (has s n) [ true ↦ p n | false ↦ true ]) (λ n. elim (has s n) [ true ↦ q n | false ↦ true ])
-    (λ n h. ap (λ (x : Bool). elim (has s n) [ true ↦ x | false ↦ true ]) (f n h))
-
 -- clause 6, as what each name of rho(p) asks
 asks-are : (m : paper.Model) (e : Estimate) (boxes b : ℕ) (l : paper.Line) → boxes ≡ paper.boxCount m
     → forEach (e .rho (l .name1)) (λ a. nameAsk e boxes b a (e .rho (l .name2))) ≡ cl.clause6 m e b l
@@ -197,23 +191,23 @@ module _ (model estimate : List ℕ) (boxes b : ℕ) (t : List ℕ) (count : box
   in-count = count ∙ sym (model-count model)
 
   -- the table holds what each name asks
-  pub needs-decide : Needs estimate boxes b t → Decides model estimate b t
+  pub needs-decides : Needs estimate boxes b t → Decides model estimate b t
   unfolding crossedIn
-  needs-decide needed = record {
+  needs-decides needed = record {
     size = needed .size;
     each = λ i h o.
         let e = estimateOf estimate in
         let l = paper.lineAt (paper.boxAt (modelOf model) b) i in
-        for-each-as (e .rho (l .name1)) (λ a. within (getD t a 0) (e .rho (l .name2))) (λ a. nameAsk e boxes b a (e .rho (l .name2)))
+        forEach-cong (e .rho (l .name1)) (λ a. within (getD t a 0) (e .rho (l .name2))) (λ a. nameAsk e boxes b a (e .rho (l .name2)))
         (λ a k. needed .each a k .same (e .rho (l .name2))) ∙ asks-are (modelOf model) e boxes b l in-count;
   }
 
   -- the table is empty, and no input can break the clause
-  pub spared-decide : (l : Layout) (s w : ℕ) (ok : Bool) → Ready model estimate → Holds model l → b < boxes → Asked w (restAsk (estimateOf estimate) boxes b)
-      → ((m : ℕ) → has s m ≡ (has (getD (l .bound) b 0) m and has (l .received) m)) → ok ≡ sparedIn (estimateOf estimate) s w → ok ≡ true → t ≡ replicate 64 0
+  pub empty-decides : (l : Layout) (s w : ℕ) (ok : Bool) → Ready model estimate → Holds model l → b < boxes → Asked w (restAsk (estimateOf estimate) boxes b)
+      → ((m : ℕ) → has s m ≡ (has (getD (l .bound) b 0) m and has (l .received) m)) → ok ≡ allHold (estimateOf estimate) s w → ok ≡ true → t ≡ replicate 64 0
       → Decides model estimate b t
-  unfolding crossedIn sparedIn
-  spared-decide l s w ok ready held inside rest members told passed zeros = record {
+  unfolding crossedIn allHold
+  empty-decides l s w ok ready held inside rest members told passed zeros = record {
     size = ap length zeros ∙ length-replicate {A = ℕ} 64 0;
     each = λ i h o.
         let e = estimateOf estimate in
@@ -227,7 +221,7 @@ module _ (model estimate : List ℕ) (boxes b : ℕ) (t : List ℕ) (count : box
           of-true (held .received (x .name2) few ∙ true-of _ (and-iff (x .name2 below nameCount model) (paper.kind (kindsOf model) (x .name2) is 2) .1
               (below-iff (x .name2) (nameCount model) .1 (f .0), is-iff (paper.kind (kindsOf model) (x .name2)) 2 .1 (f .1)))),
         )))) in
-        for-each-as (e .rho (x .name1)) (λ a. within (getD t a 0) q) (λ a. nameAsk e boxes b a q)
+        forEach-cong (e .rho (x .name1)) (λ a. within (getD t a 0) q) (λ a. nameAsk e boxes b a q)
         (λ a k. ap (λ (y : List ℕ). within (getD y a 0) q) zeros ∙ ap (λ (y : ℕ). within y q) (getD-replicate {A = ℕ} 64 a 0 0 k) ∙ within-none q
         ∙ sym (true-of (nameAsk e boxes b a q) (rest-asks e boxes b w q a rest received)))
         ∙ asks-are (modelOf model) e boxes b x in-count;
@@ -370,6 +364,6 @@ pub ruleset firsts = (needs, passed-start, passed-turn, passed-end, nothing, fir
 
 pub ruleset boxes = (needs, box-8, passed-start, passed-turn, passed-end, nothing, first-of, holds-at, holds-sites, holds-lines, inside-of, box-stop, box-go, all-stop, all-go, small-boxes)
 
-pub ruleset tables = (needs, small-boxes, ready-512, needs-decide, spared-decide, inputs-few)
+pub ruleset tables = (needs, small-boxes, ready-512, needs-decides, empty-decides, inputs-few)
 
 pub ruleset apart = (needs, fails, holds, passing-start, passing-turn, passing-stop, passing-end, apart-same, apart-other)

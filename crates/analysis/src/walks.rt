@@ -79,7 +79,7 @@ fn table(model: &[u8], estimate: &[u8], sends: &[u64; 8], layout: Layout, b: usi
     let inputs = sets::shared(bound[b], layout.received);
     let all = clauses::gather::rest(estimate, sends, layout.boxes, b);
     let mut t = [0u64; 64];
-    if clauses::walks::spared(estimate, inputs, all) {
+    if clauses::walks::all_hold(estimate, inputs, all) {
         return t;
     }
     clauses::gather::needs(estimate, sends, layout.boxes, b, &mut t);

@@ -9,17 +9,14 @@ use Rattle.definitions.specs.Sets.{has, within, meets}
 use Rattle.definitions.specs.Estimate.{Estimate, estimateOf}
 use Rattle.definitions.proofs.Loops.{fails, holds}
 use Rattle.sets.specs.Lowest.{firstOf}
-use Rattle.sets.proofs.Walk.{Left, EachLeft, left-in, first-below, walk-less, each-start, each-turn, each-stop, each-end}
+use Rattle.sets.proofs.Walk.{Left, left-in, first-below, walk-less, each-start, each-turn, each-stop, each-end}
 use Rattle.clauses.specs.Asks.{Few, Small, typedIn}
 
 pub left-62 : (s left n : ℕ) → Few s → Left s left → (left ≡ 0 → ⊥) → n ≡ firstOf left → n < 62
 left-62 s left n f w z e = let l = f .below n (first-below left n (w .fit) z e) (left-in s left n w z e) in omega arith
 
-pub each-62 : (p : ℕ → Bool) (s left n : ℕ) → Few s → EachLeft p s left → (left ≡ 0 → ⊥) → n ≡ firstOf left → n < 62
-each-62 p s left n f w = left-62 s left n f (w .there)
-
-pub each-64 : (p : ℕ → Bool) (s left n : ℕ) → EachLeft p s left → (left ≡ 0 → ⊥) → n ≡ firstOf left → n < 64
-each-64 p s left n w = first-below left n (w .there .fit)
+pub left-64 : (s left n : ℕ) → Left s left → (left ≡ 0 → ⊥) → n ≡ firstOf left → n < 64
+left-64 s left n w = first-below left n (w .fit)
 
 -- ---- a test on what called functions answered
 
@@ -45,4 +42,4 @@ module _ (image : List ℕ) (boxes n s : ℕ) (small : Small image boxes) where
   pub small-shown : n < boxes → s ≡ estimateOf image .shown n → Few s
   small-shown h e = rw e (small .shown n h)
 
-pub ruleset walks = (needs, fails, holds, walk-less, each-62, each-64, each-start, each-turn, each-stop, each-end, has-as, within-as, meets-as, small-rho, small-shown)
+pub ruleset walks = (needs, fails, holds, walk-less, left-62, left-64, each-start, each-turn, each-stop, each-end, has-as, within-as, meets-as, small-rho, small-shown)

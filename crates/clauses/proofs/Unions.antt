@@ -13,16 +13,16 @@ use lib.Dec.{T}
 use lib.ListN.{length, getD, set, replicate, length-set, length-replicate, getD-replicate}
 use lib.Seq.{getD-set-same, getD-set-other}
 use Rattle.definitions.specs.Bounded.{_and_, _or_, _implies_, _isnt_, allBelow}
-use Rattle.definitions.specs.Sets.{has, forEach, forSome, within, meets}
+use Rattle.definitions.specs.Sets.{has, forEach, within, meets}
 use Rattle.definitions.specs.Estimate.{Estimate, estimateOf}
 use Rattle.definitions.specs.ShutOff as shut
 use Rattle.definitions.proofs.Bounded.{and-iff, or-iff, all-iff, implies-iff, isnt-iff, true-of, of-true, false-of, not-false, same-test}
-use Rattle.definitions.proofs.Sets.{or-false, has-none, forEach-iff, forSome-iff, within-iff, within-trans, meets-iff, meets-comm}
+use Rattle.definitions.proofs.Sets.{and-true, and-assoc, or-assoc, or-false, has-none, forEach-iff, forSome-cong, within-iff, within-trans, meets-iff, meets-comm}
 use Rattle.definitions.proofs.Loops.{fails, holds}
 use Rattle.sets.specs.Lowest.{firstOf, RestOf}
-use Rattle.sets.proofs.Walk.{Left, left-start, left-turn, left-in, first-below, rest-keeps, walk-less, split-each, split-some, none-each, none-some}
-use Rattle.clauses.specs.Asks.{Few, Small, receivedIn, facesIn, Types, Asked, Joined, faceAsk, sendAsk, facesAsk, otherAsk, boxesAsk, nameAsk, restOne, restAsk, Sends, Needs}
-use Rattle.clauses.proofs.Members.{left-62, small-shown}
+use Rattle.sets.proofs.Walk.{Left, left-start, left-turn, left-in, rest-keeps, walk-less, split-each, split-some, none-each, none-some}
+use Rattle.clauses.specs.Asks.{Small, receivedIn, facesIn, Types, Asked, Joined, faceAsk, sendAsk, facesAsk, otherAsk, boxesAsk, nameAsk, restOne, restAsk, Sends, Needs}
+use Rattle.clauses.proofs.Members.{left-62, left-64, small-shown}
 
 -- ---- one union
 
@@ -43,27 +43,6 @@ within-union v w u e q =
 
 pub within-none : (q : ℕ) → within 0 q ≡ true
 within-none q = true-of (within 0 q) (within-iff 0 q .1 (λ n l t. absurd (not-false (has-none n) t)))
-
-and-true : (b : Bool) → (b and true) ≡ b
-unfolding _and_
-and-true true = refl
-and-true false = refl
-
-and-assoc : (a b c : Bool) → (a and b and c) ≡ (a and (b and c))
-unfolding _and_
-and-assoc true b c = refl
-and-assoc false b c = refl
-
-or-assoc : (a b c : Bool) → (a or b or c) ≡ (a or (b or c))
-unfolding _or_
-or-assoc true b c = refl
-or-assoc false b c = refl
-
-forSome-cong : (s : ℕ) (p q : ℕ → Bool) → ((n : ℕ) → p n ≡ q n) → forSome s p ≡ forSome s q
-forSome-cong s p q e =
-    same-test (forSome s p) (forSome s q)
-    (λ t. let x = forSome-iff s p .0 t in forSome-iff s q .1 (x .0, x .1, x .2, of-true (sym (e (x .0)) ∙ true-of (p (x .0)) (x .3))))
-    (λ t. let x = forSome-iff s q .0 t in forSome-iff s p .1 (x .0, x .1, x .2, of-true (e (x .0) ∙ true-of (q (x .0)) (x .3))))
 
 joined-union : (v w u y : ℕ) → UnionOf v w u → u ≡ y → Joined v w (within y)
 joined-union v w u y j e = record { same = λ q. within-union v w u j q ∙ ap (λ (z : ℕ). within w q and within z q) e }
@@ -110,9 +89,6 @@ module _ (s : ℕ) (p : ℕ → ℕ → Bool) (w₀ : ℕ) where
   gathering-start h = record { there = left-start s h; same = λ q. refl }
 
   module _ (left w : ℕ) (g : Gathering s p w₀ left w) where
-    pub gathering-62 : (n : ℕ) → Few s → (left ≡ 0 → ⊥) → n ≡ firstOf left → n < 62
-    gathering-62 n f = left-62 s left n f (g .there)
-
     pub gathering-turn : (n t v : ℕ) → (left ≡ 0 → ⊥) → n ≡ firstOf left → RestOf left t → Joined v w (p n) → Gathering s p w₀ t v
     gathering-turn n t v z e r j = record {
       there = left-turn s left t (g .there) z r;
@@ -184,9 +160,6 @@ module _ (e : Estimate) (k s : ℕ) where
   }
 
   module _ (left v : ℕ) (g : Typing e k s left v) where
-    pub typing-62 : (n : ℕ) → Few s → (left ≡ 0 → ⊥) → n ≡ firstOf left → n < 62
-    typing-62 n f = left-62 s left n f (g .there)
-
     pub typing-turn : (n t u y : ℕ) → (left ≡ 0 → ⊥) → n ≡ firstOf left → RestOf left t → UnionOf u v y → y ≡ e .eps k n → Typing e k s t u
     unfolding facesIn
     typing-turn n t u y z f r j ey = record {
@@ -209,7 +182,7 @@ module _ (e : Estimate) (h k : ℕ) where
   -- two boxes are linked exactly when the unions of their types share a name
   pub linked-as : (own v : ℕ) (r : Bool) → r ≡ meets v own → Types e h (e .shown h) own → Types e k (e .shown k) v → r ≡ shut.linked e h k
   unfolding shut.linked facesIn
-  linked-as own v r i o t = i ∙ o .same v ∙ forSome-cong (e .shown h) (λ a. meets v (e .eps h a)) (λ a. facesIn e (e .eps h a) k (e .shown k)) (λ a. meets-comm v (e .eps h a) ∙ t .same (e .eps h a))
+  linked-as own v r i o t = i ∙ o .same v ∙ forSome-cong (e .shown h) (λ a. meets v (e .eps h a)) (λ a. facesIn e (e .eps h a) k (e .shown k)) (λ a _. meets-comm v (e .eps h a) ∙ t .same (e .eps h a))
 
 -- ---- every other box
 
@@ -240,9 +213,12 @@ module _ (f : ℕ → ℕ → Bool) (n : ℕ) where
     so-far = λ q. a .same q ∙ ap (λ (z : Bool). z and f k q) (t .so-far q) ∙ ap (λ (j : ℕ). allBelow j (λ i. f i q)) (sym (add-one k));
   }
 
+through-all : (f : ℕ → ℕ → Bool) (n k w : ℕ) → Through f n k w → n ≤ k → Asked w (λ q. allBelow n (λ i. f i q))
+through-all f n k w t l = record { same = λ q. t .so-far q ∙ ap (λ (j : ℕ). allBelow j (λ i. f i q)) (le-antisymm (t .most) l) }
+
 pub through-end : (e : Estimate) (boxes b x k w : ℕ) → Through (otherAsk e b x) boxes k w → boxes ≤ k → Asked w (boxesAsk e boxes b x)
 unfolding boxesAsk
-through-end e boxes b x k w t l = record { same = λ q. t .so-far q ∙ ap (λ (j : ℕ). allBelow j (λ i. otherAsk e b x i q)) (le-antisymm (t .most) l) }
+through-end e boxes b x = through-all (otherAsk e b x) boxes
 
 -- ---- the tables
 
@@ -292,12 +268,6 @@ module _ (image : List ℕ) (boxes b : ℕ) where
   }
 
   module _ (left : ℕ) (t : List ℕ) (f : Filling image boxes b left t) where
-    pub filling-62 : (n : ℕ) → Small image boxes → b < boxes → (left ≡ 0 → ⊥) → n ≡ firstOf left → n < 62
-    filling-62 n small h = left-62 (estimateOf image .shown b) left n (small .shown b h) (f .there)
-
-    pub filling-64 : (n : ℕ) → (left ≡ 0 → ⊥) → n ≡ firstOf left → n < 64
-    filling-64 n = first-below left n (f .there .fit)
-
     pub filling-turn : (n u w x : ℕ) → (left ≡ 0 → ⊥) → n ≡ firstOf left → RestOf left u → Asked w (boxesAsk (estimateOf image) boxes b x)
         → x ≡ estimateOf image .eps b n → Filling image boxes b u (set t n w)
     unfolding nameAsk _implies_
@@ -339,7 +309,7 @@ rest-out-own e b k w f = joined-not (k isnt b) (receivedIn e k (e .shown k)) w (
 
 pub rest-end : (e : Estimate) (boxes b k w : ℕ) → Through (restOne e b) boxes k w → boxes ≤ k → Asked w (restAsk e boxes b)
 unfolding restAsk
-rest-end e boxes b k w t l = record { same = λ q. t .so-far q ∙ ap (λ (j : ℕ). allBelow j (λ i. restOne e b i q)) (le-antisymm (t .most) l) }
+rest-end e boxes b = through-all (restOne e b) boxes
 
 -- where all that other boxes may send is in q, so is what a name asks
 pub rest-asks : (e : Estimate) (boxes b w q a : ℕ) → Asked w (restAsk e boxes b) → T (within w q) → T (nameAsk e boxes b a q)
@@ -353,4 +323,4 @@ rest-asks e boxes b w q a r t =
     (λ c m u. implies-iff (meets (e .eps b a) (e .eps k c)) (within (e .kap k c) q) .1
     (λ _. forEach-iff (e .shown k) (λ i. within (e .kap k i) q) .0 (implies-iff (k isnt b) (receivedIn e k (e .shown k) q) .0 (all k l) other) c m u)))))
 
-pub ruleset gathers = (needs, fails, holds, walk-less, small-shown, face-in, face-out, gathering-start, gathering-62, gathering-turn, send-in, sent-end, faced-end, faced-stop, typing-start, typing-62, typing-turn, typing-end, types-as, linked-as, other-in, other-out, through-start, through-turn, through-end, sends-at, sending-start, sending-turn, sending-end, filling-start, filling-62, filling-64, filling-turn, filling-end, rest-in-other, rest-out-own, rest-end)
+pub ruleset gathers = (needs, fails, holds, walk-less, left-62, left-64, small-shown, face-in, face-out, gathering-start, gathering-turn, send-in, sent-end, faced-end, faced-stop, typing-start, typing-turn, typing-end, types-as, linked-as, other-in, other-out, through-start, through-turn, through-end, sends-at, sending-start, sending-turn, sending-end, filling-start, filling-turn, filling-end, rest-in-other, rest-out-own, rest-end)

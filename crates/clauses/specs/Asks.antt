@@ -33,9 +33,9 @@ receivedIn e b s q = forEach s (λ a. within (e .kap b a) q)
 unfoldable pub crossedIn : List ℕ → ℕ → ℕ → Bool
 crossedIn t s q = forEach s (λ a. within (getD t a 0) q)
 
--- clause 6 cannot be broken where w is all that other boxes may send: w within rho(q) for each q in s
-unfoldable pub sparedIn : Estimate → ℕ → ℕ → Bool
-sparedIn e s w = forEach s (λ q. within w (e .rho q))
+-- w within rho(q) for each q in s: where w is all that other boxes may send, no input into q breaks clause 6
+unfoldable pub allHold : Estimate → ℕ → ℕ → Bool
+allHold e s w = forEach s (λ q. within w (e .rho q))
 
 -- clause 7: rho(g) within x for each g in s
 unfoldable pub typedIn : Estimate → ℕ → ℕ → Bool

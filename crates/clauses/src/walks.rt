@@ -3,7 +3,7 @@ ghost use mathlib.Core.Path.{_≡_};
 ghost use Prim.Native.Nat.{_+_, _*_, _<_, _≤_};
 ghost use lib.ListN.{length, getD};
 ghost use Rattle.definitions.specs.Estimate.{estimateOf};
-ghost use Rattle.clauses.specs.Asks.{Few, sentIn, receivedIn, crossedIn, sparedIn, typedIn};
+ghost use Rattle.clauses.specs.Asks.{Few, sentIn, receivedIn, crossedIn, allHold, typedIn};
 use sets::NameNo;
 
 // Clause 4: q within kap(b, a) for each a in s.
@@ -61,10 +61,10 @@ fn asked(t: &[u64; 64], a: NameNo) -> u64
     t[a.0 as usize]
 }
 
-// Clause 6 holds at each input that binds a name of s: all that other boxes may send, w, is within rho of it.
-pub fn spared(estimate: &[u8], s: u64, w: u64) -> bool
+// w within rho(q) for each q in s. Where w is all that other boxes may send, clause 6 holds at each input that binds a name of s.
+pub fn all_hold(estimate: &[u8], s: u64, w: u64) -> bool
     requires { ⌜ (512 ≤ length (now estimate)) × Few s ⌝ }
-    ensures { λ r. ⌜ r ≡ sparedIn (estimateOf (now (estimate .entry))) s w ⌝ }
+    ensures { λ r. ⌜ r ≡ allHold (estimateOf (now (estimate .entry))) s w ⌝ }
 {
     let mut left = s;
     while left != 0 {

@@ -23,7 +23,7 @@ use Rattle.definitions.specs.ReadModel.{usedBefore, siteFits, lineFits, childFi
 use Rattle.definitions.proofs.Bounded.{and-iff, implies-iff, any-iff, any-cong, is-iff, isnt-iff, of-true, not-false}
 use Rattle.definitions.proofs.Loops.{Passed, passed-start, passed-turn, passed-stop, passed-end, holds}
 use Rattle.definitions.proofs.Faults.{first-iff, passed-iff}
-use Rattle.definitions.proofs.Sets.{has-none}
+use Rattle.definitions.proofs.Sets.{has-none, or-assoc}
 use Rattle.definitions.proofs.Words.{dataWord-block}
 use Rattle.definitions.proofs.Image.{model-box, box-sites, box-site, box-lines, box-line}
 use Rattle.definitions.proofs.Tree.{child-iff, child-of, above-child, above-root}
@@ -40,11 +40,6 @@ any-more n p = ap (λ (m : ℕ). anyBelow m p) (add-one n)
 pub any-zero : (p : ℕ → Bool) → anyBelow 0 p ≡ false
 unfolding anyBelow
 any-zero p = refl
-
-or-assoc : (a b c : Bool) → (a or b or c) ≡ (a or (b or c))
-unfolding _or_
-or-assoc true b c = refl
-or-assoc false b c = refl
 
 -- ---- lines that are there
 

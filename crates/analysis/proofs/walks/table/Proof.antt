@@ -15,8 +15,8 @@ shared-requires c κs = search tables
 rest-requires : tie.Need-rest-requires
 rest-requires c κs = search tables
 
-spared-requires : tie.Need-spared-requires
-spared-requires c κs = search tables
+all-hold-requires : tie.Need-all-hold-requires
+all-hold-requires c κs = search tables
 
 returns : tie.Need-returns
 returns c = search tables
@@ -35,7 +35,7 @@ table-spec =
     array-read-shared
     shared-requires
     rest-requires
-    spared-requires
+    all-hold-requires
     returns
     needs-requires
     returns-2)

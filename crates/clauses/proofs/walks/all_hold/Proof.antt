@@ -1,11 +1,11 @@
--- `clauses::walks::spared` meets its contract: the members left give the answer. Assumes nothing.
+-- `clauses::walks::all_hold` meets its contract: the members left give the answer. Assumes nothing.
 use Rattle.definitions.specs.Sets.{within}
 use Rattle.definitions.specs.Estimate.{estimateOf}
 use Rattle.sets.proofs.Walk.{EachLeft}
-use Rattle.clauses.specs.Asks.{sparedIn}
+use Rattle.clauses.specs.Asks.{allHold}
 use Rattle.clauses.proofs.Members.{walks}
-use Rattle.clauses.proofs.walks.spared.Statement.{statement}
-use Rattle.clauses.proofs.walks.spared.Tie as tie
+use Rattle.clauses.proofs.walks.all_hold.Statement.{statement}
+use Rattle.clauses.proofs.walks.all_hold.Tie as tie
 
 abbrev Inv-loop : tie.InvT-loop
 Inv-loop estimate s w left₀ left = EachLeft (λ n. within w (estimateOf estimate .rho n)) s left
@@ -26,7 +26,7 @@ within-requires : tie.Need-within-requires Inv-loop μ-loop
 within-requires c κs = search walks
 
 returns : tie.Need-returns Inv-loop μ-loop
-unfolding sparedIn
+unfolding allHold
 returns c = search walks
 
 rest-requires : tie.Need-rest-requires Inv-loop μ-loop
@@ -39,11 +39,11 @@ loop-again : tie.Need-loop-again Inv-loop μ-loop
 loop-again c = search walks
 
 returns-2 : tie.Need-returns-2 Inv-loop μ-loop
-unfolding sparedIn
+unfolding allHold
 returns-2 c = search walks
 
-pub spared-spec : {M : Type 1} → statement M
-spared-spec =
+pub all-hold-spec : {M : Type 1} → statement M
+all-hold-spec =
     tie.close
     (tie.spec
     Inv-loop
