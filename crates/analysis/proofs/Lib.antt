@@ -1,3 +1,2 @@
-pub mod Facts
-pub mod Steps
 pub mod Replies
+pub mod Refused

@@ -1,2 +1,3 @@
 pub mod Answers
-pub mod Tests
+pub mod Known
+pub mod Places

@@ -6,21 +6,22 @@ ghost use Rattle.definitions.specs.Image.{nameCount, boxesOf, modelOf};
 ghost use Rattle.definitions.specs.ReadModel.{readModel};
 ghost use Rattle.definitions.specs.Estimate.{estimateOf};
 ghost use Rattle.definitions.specs.ReadEstimate.{readEstimate};
-ghost use Rattle.definitions.specs.Clauses as paper;
+ghost use Rattle.definitions.specs.Clauses as clauses;
 ghost use Rattle.definitions.specs.ShutOff as shut;
-ghost use Rattle.model.specs.Records.{readOf};
-ghost use Rattle.model.specs.Holds.{Holds};
-ghost use Rattle.analysis.specs.Answers.{foundIn, verdictIn, replyIn};
-ghost use Rattle.analysis.specs.Tests.{Ready, HeldBy, boxReply};
-use crate::Found;
+ghost use Rattle.refusals.specs.Answers.{answerIn};
+ghost use Rattle.layouts.specs.LayoutOf.{LayoutOf};
+ghost use Rattle.first_broken.specs.Found.{foundIn};
+ghost use Rattle.first_broken.specs.Known.{Unrefused};
+ghost use Rattle.analysis.specs.Answers.{verdictIn, replyIn};
+ghost use Rattle.analysis.specs.Known.{LayoutIfRead};
 use crate::Reply;
 use crate::Verdict;
-use model::Answer;
-use model::Layout;
-use model::Refusal;
+use first_broken::Found;
+use layouts::Layout;
+use refusals::Answer;
 
 fn found(f: Found) -> Verdict
-    ensures { λ r. ⌜ verdictIn r ≡ paper.verdictOf (foundIn f) ⌝ }
+    ensures { λ r. ⌜ verdictIn r ≡ clauses.verdictOf (foundIn f) ⌝ }
 {
     match f {
         Found::Nothing => Verdict::Accepted,
@@ -28,41 +29,58 @@ fn found(f: Found) -> Verdict
     }
 }
 
-// The model is held: the estimate is read, and then the clauses are tried.
-fn held(model: &[u8], estimate: &[u8], layout: Layout) -> Verdict
-    requires { ⌜ (readModel (now model) ≡ none) × Holds (now model) layout ⌝ }
-    ensures { λ r. ⌜ verdictIn r ≡ paper.afterEstimate (readEstimate (nameCount (now (model .entry))) (boxesOf (now (model .entry))) (now (estimate .entry))) (paper.verdictOf (paper.firstBroken (modelOf (now (model .entry))) (estimateOf (now (estimate .entry))))) ⌝ }
+// The model is not refused: the estimate is read, and then the clauses are tried.
+fn verdict_of(model: &[u8], estimate: &[u8], layout: Layout) -> Verdict
+    requires { ⌜ (readModel (now model) ≡ none) × LayoutOf (now model) layout ⌝ }
+    ensures { λ r. ⌜ verdictIn r ≡ clauses.afterEstimate (readEstimate (nameCount (now (model .entry))) (boxesOf (now (model .entry))) (now (estimate .entry))) (clauses.verdictOf (clauses.firstBroken (modelOf (now (model .entry))) (estimateOf (now (estimate .entry))))) ⌝ }
 {
     match estimate::read(estimate, layout.names, layout.boxes) {
-        estimate::Answer::Held => found(crate::walks::first_broken(model, estimate, layout)),
-        estimate::Answer::Refused(r) => Verdict::RefusedEstimate(Refusal {
-            number: r.number,
-            place: r.block,
-            second: 0,
-        }),
+        Answer::NoRefusal => found(first_broken::find(model, estimate, layout)),
+        Answer::Refused(r) => Verdict::RefusedEstimate(r),
     }
 }
 
 pub fn verdict(model: &[u8], estimate: &[u8], answer: Answer, layout: Layout) -> Verdict
-    requires { ⌜ (readOf answer ≡ readModel (now model)) × HeldBy (now model) answer layout ⌝ }
-    ensures { λ r. ⌜ verdictIn r ≡ paper.check (now (model .entry)) (now (estimate .entry)) ⌝ }
+    requires { ⌜ (answerIn answer ≡ readModel (now model)) × LayoutIfRead (now model) answer layout ⌝ }
+    ensures { λ r. ⌜ verdictIn r ≡ clauses.check (now (model .entry)) (now (estimate .entry)) ⌝ }
 {
     match answer {
-        Answer::Held => held(model, estimate, layout),
+        Answer::NoRefusal => verdict_of(model, estimate, layout),
         Answer::Refused(r) => Verdict::RefusedModel(r),
     }
 }
 
-// Both images are held, and no clause is broken.
+// The model is not refused: the estimate is read, and no clause is tried.
+fn estimate_verdict(model: &[u8], estimate: &[u8], layout: Layout) -> Verdict
+    requires { ⌜ LayoutOf (now model) layout ⌝ }
+    ensures { λ r. ⌜ verdictIn r ≡ clauses.afterEstimate (readEstimate (nameCount (now (model .entry))) (boxesOf (now (model .entry))) (now (estimate .entry))) clauses.accepted ⌝ }
+{
+    match estimate::read(estimate, layout.names, layout.boxes) {
+        Answer::NoRefusal => Verdict::Accepted,
+        Answer::Refused(r) => Verdict::RefusedEstimate(r),
+    }
+}
+
+pub fn both(model: &[u8], estimate: &[u8], answer: Answer, layout: Layout) -> Verdict
+    requires { ⌜ (answerIn answer ≡ readModel (now model)) × LayoutIfRead (now model) answer layout ⌝ }
+    ensures { λ r. ⌜ verdictIn r ≡ clauses.readBoth (now (model .entry)) (now (estimate .entry)) ⌝ }
+{
+    match answer {
+        Answer::NoRefusal => estimate_verdict(model, estimate, layout),
+        Answer::Refused(r) => Verdict::RefusedModel(r),
+    }
+}
+
+// Neither image is refused, and no clause is broken.
 fn accepted(model: &[u8], estimate: &[u8], layout: Layout, h: usize) -> Reply
-    requires { ⌜ Ready (now model) (now estimate) × Holds (now model) layout ⌝ }
-    ensures { λ r. ⌜ replyIn r ≡ boxReply (now (model .entry)) (now (estimate .entry)) h ⌝ }
+    requires { ⌜ Unrefused (now model) (now estimate) × LayoutOf (now model) layout ⌝ }
+    ensures { λ r. ⌜ replyIn r ≡ shut.boxReply (now (model .entry)) (now (estimate .entry)) h ⌝ }
 {
     let boxes = layout.boxes;
     if boxes <= h {
         return Reply::Nobody;
     }
-    if crate::walks::shut_off(estimate, boxes, h) {
+    if links::shut_off(estimate, boxes, h) {
         Reply::Yes
     } else {
         Reply::No
@@ -70,7 +88,7 @@ fn accepted(model: &[u8], estimate: &[u8], layout: Layout, h: usize) -> Reply
 }
 
 pub fn reply(model: &[u8], estimate: &[u8], answer: Answer, layout: Layout, h: usize) -> Reply
-    requires { ⌜ (readOf answer ≡ readModel (now model)) × HeldBy (now model) answer layout ⌝ }
+    requires { ⌜ (answerIn answer ≡ readModel (now model)) × LayoutIfRead (now model) answer layout ⌝ }
     ensures { λ r. ⌜ replyIn r ≡ shut.question (now (model .entry)) (now (estimate .entry)) h ⌝ }
 {
     let v = verdict(model, estimate, answer, layout);

@@ -4,13 +4,15 @@ ghost use mathlib.Core.List.{[]};
 ghost use Prim.Native.Nat.{_+_, _*_, _%_, _≤_};
 ghost use lib.ListN.{length};
 ghost use Rattle.definitions.specs.Words.{blockOf};
+ghost use Rattle.definitions.specs.Answer.{refusal};
 ghost use Rattle.definitions.specs.ShutOff as shut;
 ghost use Rattle.analysis.specs.Answers.{verdictIn};
-ghost use Rattle.analysis.specs.Tests.{IfBlock, WholeBlocks, partOf};
+ghost use Rattle.analysis.specs.Known.{WholeIfBlock, WholeBlocks};
+ghost use Rattle.analysis.specs.Places.{At, Stands, RefusedStands};
 use crate::Verdict;
 
 fn nothing<'a>(image: &'a [u8]) -> &'a [u8]
-    ensures { λ r. ⌜ now r ≡ [] ⌝ }
+    ensures { λ r. ⌜ (now r ≡ []) × At r (image .entry) 0 ⌝ }
 {
     &image[0..0]
 }
@@ -18,29 +20,29 @@ fn nothing<'a>(image: &'a [u8]) -> &'a [u8]
 // Block k, which is there.
 fn whole<'a>(image: &'a [u8], k: usize) -> &'a [u8]
     requires { ⌜ 512 * (k + 1) ≤ length (now image) ⌝ }
-    ensures { λ r. ⌜ now r ≡ blockOf (now (image .entry)) k ⌝ }
+    ensures { λ r. ⌜ (now r ≡ blockOf (now (image .entry)) k) × At r (image .entry) (512 * k) ⌝ }
 {
     let start = 512 * k;
     let end = start + 512;
     &image[start..end]
 }
 
-// Block k of an image of whole blocks.
-fn block<'a>(image: &'a [u8], k: usize) -> &'a [u8]
+// Block k of an image of whole blocks; past its end, nothing.
+fn block<'a>(model: &'a [u8], image: &'a [u8], k: usize) -> &'a [u8]
     requires { ⌜ length (now image) % 512 ≡ 0 ⌝ }
-    ensures { λ r. ⌜ now r ≡ blockOf (now (image .entry)) k ⌝ }
+    ensures { λ r. ⌜ (now r ≡ blockOf (now (image .entry)) k) × Stands (model .entry) (image .entry) r k ⌝ }
 {
-    if blocks::holds(image, k) {
+    if blocks::has_block(image, k) {
         whole(image, k)
     } else {
-        nothing(image)
+        nothing(model)
     }
 }
 
-// Of a refusal with its number and its block. Only 2 to 5 have one.
-fn of<'a>(model: &'a [u8], image: &'a [u8], number: u8, k: usize) -> &'a [u8]
-    requires { ⌜ IfBlock (now image) number ⌝ }
-    ensures { λ r. ⌜ now r ≡ partOf (now (image .entry)) number k ⌝ }
+// The block of a refusal, by its number. Only 2 to 5 have one.
+fn refused<'a>(model: &'a [u8], image: &'a [u8], number: u8, k: usize) -> &'a [u8]
+    requires { ⌜ WholeIfBlock (now image) number ⌝ }
+    ensures { λ r. ⌜ (now r ≡ shut.refusedPart (now (image .entry)) (refusal number k 0)) × Stands (model .entry) (image .entry) r k ⌝ }
 {
     if number < 2 {
         return nothing(model);
@@ -48,18 +50,18 @@ fn of<'a>(model: &'a [u8], image: &'a [u8], number: u8, k: usize) -> &'a [u8]
     if 5 < number {
         return nothing(model);
     }
-    block(image, k)
+    block(model, image, k)
 }
 
 // What is handed back for a verdict: where there is no refused block, an empty part of the model.
 pub fn part<'a>(model: &'a [u8], estimate: &'a [u8], v: Verdict) -> &'a [u8]
     requires { ⌜ WholeBlocks (now model) (now estimate) (verdictIn v) ⌝ }
-    ensures { λ r. ⌜ now r ≡ shut.refusedIn (now (model .entry)) (now (estimate .entry)) (verdictIn v) ⌝ }
+    ensures { λ r. ⌜ (now r ≡ shut.refusedIn (now (model .entry)) (now (estimate .entry)) (verdictIn v)) × RefusedStands (model .entry) (estimate .entry) (verdictIn v) r ⌝ }
 {
     match v {
         Verdict::Accepted => nothing(model),
         Verdict::Breaks(_) => nothing(model),
-        Verdict::RefusedModel(r) => of(model, model, r.number, r.place),
-        Verdict::RefusedEstimate(r) => of(model, estimate, r.number, r.place),
+        Verdict::RefusedModel(r) => refused(model, model, r.number, r.place),
+        Verdict::RefusedEstimate(r) => refused(model, estimate, r.number, r.place),
     }
 }

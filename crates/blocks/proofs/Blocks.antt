@@ -1,8 +1,8 @@
--- Laws of a block in its image: what is read at the block's place is the block's; whether the image holds it; data words that are zero. Assumes nothing.
+-- Laws of a block in its image: what is read at the block's place is the block's; whether the image has it; data words that are zero. Assumes nothing.
 use mathlib.Core.Path.{_≡_, refl, sym, ap, ap₂, _∙_}
 use mathlib.Core.Bool.{Bool, true, false}
 use mathlib.Core.List.{List}
-use mathlib.Core.Option.{Option, none, some}
+use mathlib.Core.Option.{none, some}
 use Prim.Native.Nat.{ℕ, zero-le, _+_, _*_, _/_, _≤_, _<_}
 use native.Mathlib.Nat.{le-refl}
 use native.Mathlib.Omega.{arith}
@@ -11,14 +11,14 @@ use borrow.Author.Needs.{needs}
 use lib.Dec.{T, eqb, ltb, lit<}
 use lib.ListN.{length, drop}
 use Rattle.definitions.specs.Bounded.{_implies_, _is_, _below_, _upto_}
-use Rattle.definitions.specs.Words.{byteAt, wordAt, wordsOf, blockOf, numberOf, kindOf, boxOf, countOf, spareOf, dataWord}
-use Rattle.definitions.specs.Check.{checkFrom, checkOf, checkHeld}
+use Rattle.definitions.specs.Words.{byteAt, wordAt, wordsOf, blockOf, numberOf, kindOfBlock, boxOf, countOf, spareOf, dataWord}
+use Rattle.definitions.specs.Check.{checkFrom, checkOf, storedCheck}
 use Rattle.definitions.specs.ReadModel.{clearFrom}
 use Rattle.definitions.proofs.Bounded.{is-iff, upto-iff, below-iff, implies-iff, all-iff, true-of, of-true, false-of, same-test}
 use Rattle.definitions.proofs.Words.{byteAt-block, dataWord-block}
-use Rattle.definitions.proofs.Check.{checkOf-block, checkHeld-block}
+use Rattle.definitions.proofs.Check.{checkOf-block, storedCheck-block}
 use Rattle.blocks.specs.declared.inside.Heading.{Heading}
-use Rattle.blocks.specs.Answers.{headingOf, ofBlock, ofWord, ofPlace}
+use Rattle.blocks.specs.Answers.{headingOf, ofBlock}
 
 -- ---- what is read at the block's place
 
@@ -30,15 +30,15 @@ module _ (image : List ℕ) (k : ℕ) where
   data-of i w h e = e ∙ sym (dataWord-block image k i h)
 
   pub check-is : (c w : ℕ) → c ≡ checkOf (blockOf image k) → w ≡ wordAt image (512 * k + 504)
-      → eqb c w ≡ (checkOf (blockOf image k) is checkHeld (blockOf image k))
+      → eqb c w ≡ (checkOf (blockOf image k) is storedCheck (blockOf image k))
   unfolding _is_
-  check-is c w e f = ap₂ eqb e (f ∙ sym (checkHeld-block image k))
+  check-is c w e f = ap₂ eqb e (f ∙ sym (storedCheck-block image k))
 
   pub heading-is : (n d b m z : ℕ)
       → n ≡ byteAt image (512 * k) + 256 * byteAt image (512 * k + 1) → d ≡ byteAt image (512 * k + 2) → b ≡ byteAt image (512 * k + 3)
       → m ≡ byteAt image (512 * k + 4) + 256 * byteAt image (512 * k + 4 + 1) → z ≡ byteAt image (512 * k + 6) + 256 * byteAt image (512 * k + 6 + 1)
       → _≡_ {A = Heading} (record { number = n; kind = d; place = b; count = m; spare = z }) (headingOf (blockOf image k))
-  unfolding numberOf kindOf boxOf countOf spareOf
+  unfolding numberOf kindOfBlock boxOf countOf spareOf
   heading-is n d b m z en ed eb em ez =
       let number = en ∙ ap₂ (λ (x y : ℕ). x + 256 * y) (at 0 (512 * k) (lit< tt) (omega arith)) (at 1 (512 * k + 1) (lit< tt) refl) in
       let kind = ed ∙ at 2 (512 * k + 2) (lit< tt) refl in
@@ -50,38 +50,27 @@ module _ (image : List ℕ) (k : ℕ) where
       at : (i j : ℕ) → i < 512 → j ≡ 512 * k + i → byteAt image j ≡ byteAt (blockOf image k) i
       at i j h q = ap (byteAt image) q ∙ sym (byteAt-block image k i h)
 
--- ---- whether the image holds it
+-- ---- whether the image has it
 
-pub holds-is : (n k : ℕ) → ltb k (n / 512) ≡ (512 * (k + 1) upto n)
+pub has-block-is : (n k : ℕ) → ltb k (n / 512) ≡ (512 * (k + 1) upto n)
 unfolding _below_
-holds-is n k =
+has-block-is n k =
     same-test (ltb k (n / 512)) (512 * (k + 1) upto n) (λ t. upto-iff (512 * (k + 1)) n .1 (let h = below-iff k (n / 512) .0 t in omega arith))
     (λ t. below-iff k (n / 512) .1 (let h = upto-iff (512 * (k + 1)) n .0 t in omega arith))
 
--- block k is held, and so is each block j before it
-pub held : (n j k : ℕ) (b : Bool) → b ≡ (512 * (k + 1) upto n) → b ≡ true → j ≤ k → 512 * (j + 1) ≤ n
-held n j k b e t l = let h = upto-iff (512 * (k + 1)) n .0 (of-true (sym e ∙ t)) in omega arith
+-- block k is there, and so is each block j before it
+pub there : (n j k : ℕ) (b : Bool) → b ≡ (512 * (k + 1) upto n) → b ≡ true → j ≤ k → 512 * (j + 1) ≤ n
+there n j k b e t l = let h = upto-iff (512 * (k + 1)) n .0 (of-true (sym e ∙ t)) in omega arith
 
 module _ {A : Type 0} (image : List ℕ) (k : ℕ) (f : List ℕ → A) (b : Bool) (e : b ≡ (512 * (k + 1) upto length image)) where
-  pub of-held : (a : A) → b ≡ true → a ≡ f (blockOf image k) → some a ≡ ofBlock image k f
+  pub of-there : (a : A) → b ≡ true → a ≡ f (blockOf image k) → some a ≡ ofBlock image k f
   unfolding ofBlock
-  of-held a t q =
+  of-there a t q =
       ap some q ∙ sym (ap (λ (x : Bool). elim x [ true ↦ some (f (blockOf image k)) | false ↦ none ]) (sym e ∙ t))
 
   pub of-missing : b ≡ false → none ≡ ofBlock image k f
   unfolding ofBlock
   of-missing t = sym (ap (λ (x : Bool). elim x [ true ↦ some (f (blockOf image k)) | false ↦ none ]) (sym e ∙ t))
-
-module _ (image : List ℕ) (k i : ℕ) where
-  word-in : (x : Bool) → i below 62 ≡ x → ofWord image k i ≡ elim x [ true ↦ ofBlock image k (λ block. dataWord block i) | false ↦ none ]
-  unfolding ofWord
-  word-in x e = ap (λ (y : Bool). elim y [ true ↦ ofBlock image k (λ block. dataWord block i) | false ↦ none ]) e
-
-  pub word-past : 62 ≤ i → none ≡ ofWord image k i
-  word-past h = sym (word-in false (false-of (i below 62) (λ t. let l = below-iff i 62 .0 t in omega arith)))
-
-  pub word-read : i < 62 → (o : Option ℕ) → o ≡ ofBlock image k (λ block. dataWord block i) → o ≡ ofWord image k i
-  word-read h o e = e ∙ sym (word-in true (true-of (i below 62) (below-iff i 62 .1 h)))
 
 -- ---- data words that are zero, from a number up to i
 
@@ -119,16 +108,4 @@ cleared-end block from i c l =
     (λ j h. implies-iff (from upto j) (dataWord block j is 0) .1
     (λ t. is-iff (dataWord block j) 0 .1 (c .zeros j (upto-iff from j .0 t) (omega arith))))))
 
--- the word at a place: it stands there, or the place is too near the end
-pub place-held : (image : List ℕ) (at w : ℕ) → at + 8 ≤ length image → w ≡ wordAt image at → some w ≡ ofPlace image at
-unfolding ofPlace
-place-held image at w h e =
-    ap some e ∙ sym (ap (λ (x : Bool). elim x [ true ↦ some (wordAt image at) | false ↦ none ]) (true-of (at + 8 upto length image) (upto-iff (at + 8) (length image) .1 h)))
-
-pub place-past : (image : List ℕ) (at : ℕ) → length image < at + 8 → none ≡ ofPlace image at
-unfolding ofPlace
-place-past image at h =
-    sym (ap (λ (x : Bool). elim x [ true ↦ some (wordAt image at) | false ↦ none ])
-    (false-of (at + 8 upto length image) (λ t. let q = upto-iff (at + 8) (length image) .0 t in omega arith)))
-
-pub ruleset blocks = (needs, le-refl, zero-le, of-held, of-missing, word-past, word-read, check-of, data-of, check-is, held, cleared-start, cleared-turn, cleared-stop, cleared-end)
+pub ruleset blocks = (needs, le-refl, zero-le, of-there, of-missing, check-of, data-of, check-is, there, cleared-start, cleared-turn, cleared-stop, cleared-end)

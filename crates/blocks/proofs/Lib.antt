@@ -1,3 +1,4 @@
 pub mod Products
 pub mod Loops
 pub mod Blocks
+pub mod Headings

@@ -15,22 +15,22 @@ use Rattle.blocks.specs.Powers.{powers}
 
 -- ---- step by step
 
-pub record Stepped (s : List ℕ) (R p n c : ℕ) : Type 0 where
+pub record StepResult (s : List ℕ) (R p n c : ℕ) : Type 0 where
   pub room : p + 8 * n ≤ length s
   pub rest : checkFrom c (wordsOf n (drop p s)) ≡ R
 
-pub stepped-start : (s : List ℕ) (at n : ℕ) → at + 8 * n ≤ length s → Stepped s (checkFrom 1 (wordsOf n (drop at s))) at n 1
+pub stepped-start : (s : List ℕ) (at n : ℕ) → at + 8 * n ≤ length s → StepResult s (checkFrom 1 (wordsOf n (drop at s))) at n 1
 stepped-start s at n h = record { room = h; rest = refl }
 
-pub stepped-turn : (s : List ℕ) (R p n c d w : ℕ) → Stepped s R p n c → 0 < n → w ≡ wordAt s p → d ≡ (31 * c + w) % 2 ^ 64
-    → Stepped s R (p + 8) (n - 1) d
+pub stepped-turn : (s : List ℕ) (R p n c d w : ℕ) → StepResult s R p n c → 0 < n → w ≡ wordAt s p → d ≡ (31 * c + w) % 2 ^ 64
+    → StepResult s R (p + 8) (n - 1) d
 stepped-turn s R p n c d w h l e q =
     record {
       room = omega (arith, h .room);
       rest = sym (check-turn s p n c d l (q ∙ ap (λ (x : ℕ). (31 * c + x) % 2 ^ 64) e)) ∙ h .rest;
     }
 
-pub stepped-end : (s : List ℕ) (R p n c : ℕ) → Stepped s R p n c → n ≤ 0 → c ≡ R
+pub stepped-end : (s : List ℕ) (R p n c : ℕ) → StepResult s R p n c → n ≤ 0 → c ≡ R
 unfolding checkFrom wordsOf
 stepped-end s R p zero c h l = h .rest
 stepped-end s R p (suc n) c h l = absurd (not-suc-le-zero l)

@@ -1,11 +1,11 @@
-// A block of an image that holds it: its heading, its data words and its check. These require the block, so that who reads an image
+// A block of an image that has it whole: its heading, its data words and its check. These require the block, so that who reads an image
 // tests its length once.
 ghost use mathlib.Core.Path.{_≡_};
 ghost use Prim.Native.Nat.{_+_, _*_, _<_, _≤_};
 ghost use lib.ListN.{length};
-ghost use Rattle.definitions.specs.Bounded.{_is_};
+ghost use Rattle.definitions.specs.Bounded.{_and_, _is_};
 ghost use Rattle.definitions.specs.Words.{blockOf, dataWord};
-ghost use Rattle.definitions.specs.Check.{checkOf, checkHeld};
+ghost use Rattle.definitions.specs.Check.{checkOf, storedCheck};
 ghost use Rattle.definitions.specs.ReadModel.{clearFrom};
 ghost use Rattle.blocks.specs.Answers.{headingOf};
 
@@ -24,19 +24,35 @@ pub fn heading_of(image: &[u8], k: usize) -> Heading
 {
     let at = 512 * k;
     Heading {
-        number: crate::words::half(image, at),
-        kind: crate::words::byte(image, at + 2),
-        place: crate::words::byte(image, at + 3),
-        count: crate::words::half(image, at + 4),
-        spare: crate::words::half(image, at + 6),
+        number: words::half(image, at),
+        kind: words::byte(image, at + 2),
+        place: words::byte(image, at + 3),
+        count: words::half(image, at + 4),
+        spare: words::half(image, at + 6),
     }
+}
+
+// The heading is that of block k, of a kind and a box, and bytes 6 and 7 are zero.
+pub fn heading_matches(h: Heading, k: usize, kind: usize, place: usize) -> bool
+    ensures { λ r. ⌜ r ≡ (h .number is k and h .kind is kind and h .place is place and h .spare is 0) ⌝ }
+{
+    if h.number != k {
+        return false;
+    }
+    if h.kind != kind {
+        return false;
+    }
+    if h.place != place {
+        return false;
+    }
+    h.spare == 0
 }
 
 pub fn data_word(image: &[u8], k: usize, i: usize) -> u64
     requires { ⌜ (512 * (k + 1) ≤ length (now image)) × (i < 62) ⌝ }
     ensures { λ r. ⌜ r ≡ dataWord (blockOf (now (image .entry)) k) i ⌝ }
 {
-    crate::words::word(image, 512 * k + (8 + 8 * i))
+    words::word(image, 512 * k + (8 + 8 * i))
 }
 
 // Data words from a number on are zero.
@@ -54,7 +70,7 @@ pub fn clear_from(image: &[u8], k: usize, from: usize) -> bool
     true
 }
 
-// The check that a block ought to hold.
+// The check that a block ought to have.
 pub fn check(image: &[u8], k: usize) -> u64
     requires { ⌜ 512 * (k + 1) ≤ length (now image) ⌝ }
     ensures { λ r. ⌜ r ≡ checkOf (blockOf (now (image .entry)) k) ⌝ }
@@ -69,10 +85,10 @@ pub fn check_by_steps(image: &[u8], k: usize) -> u64
     crate::sums::by_steps(image, 512 * k)
 }
 
-// The check that a block holds is the one that it ought to hold.
-pub fn check_holds(image: &[u8], k: usize) -> bool
+// The check that a block stores is the one that it ought to have.
+pub fn check_matches(image: &[u8], k: usize) -> bool
     requires { ⌜ 512 * (k + 1) ≤ length (now image) ⌝ }
-    ensures { λ r. ⌜ r ≡ (checkOf (blockOf (now (image .entry)) k) is checkHeld (blockOf (now (image .entry)) k)) ⌝ }
+    ensures { λ r. ⌜ r ≡ (checkOf (blockOf (now (image .entry)) k) is storedCheck (blockOf (now (image .entry)) k)) ⌝ }
 {
-    check(image, k) == crate::words::word(image, 512 * k + 504)
+    check(image, k) == words::word(image, 512 * k + 504)
 }

@@ -51,7 +51,7 @@ pub fn by_steps(s: &[u8], at: usize) -> u64
     let mut p = at;
     let mut left: usize = 63;
     while 0 < left {
-        c = step(c, crate::words::word(s, p));
+        c = step(c, words::word(s, p));
         p += 8;
         left -= 1;
     }
@@ -142,7 +142,7 @@ fn by_powers(t: &[u64; 64], s: &[u8], at: usize) -> u64
     let mut left: usize = 63;
     while 0 < left {
         left -= 1;
-        sum = times_plus(crate::words::word(s, p), power(t, left), sum);
+        sum = times_plus(words::word(s, p), power(t, left), sum);
         p += 8;
     }
     sum

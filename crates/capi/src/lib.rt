@@ -1,19 +1,19 @@
 // The calls that C and Rust link: numbers and slices in, one number out.
 ghost use mathlib.Core.Path.{_≡_};
-ghost use Prim.Native.Nat.{_<_};
 ghost use Rattle.definitions.specs.Check.{checkOf};
 ghost use Rattle.definitions.specs.ReadModel.{readModel};
 ghost use Rattle.definitions.specs.Clauses as clauses;
 ghost use Rattle.definitions.specs.ShutOff.{question, refusedBlock};
+ghost use Rattle.definitions.specs.Calls as calls;
 ghost use Rattle.blocks.specs.Answers.{ofBlock};
-ghost use Rattle.analysis.specs.Answers.{verdictIn, replyIn};
-ghost use Rattle.capi.specs.Packed.{orZero, pack, packVerdict, packModel, packReply, copied, copiedCount};
-use analysis::Reply;
-use analysis::Verdict;
+ghost use Rattle.deciding.specs.Numbers.{moveOf};
+ghost use Rattle.runs.specs.Begins.{movesIn};
+ghost use Rattle.packing.specs.Packed.{packVerdict, packReply, packCall, packPart};
+ghost use Rattle.capi.specs.Copied.{orZero, copied, packCopied};
 use blocks::Number;
-use model::Answer;
+use runs::Move;
 
-// The check that block k ought to hold: 0 where the image has no such block.
+// The check that block k ought to have: 0 where the image has no such block.
 #[no_mangle]
 pub extern "C" fn bm_block_check(image: &[u8], k: usize) -> u64
     ensures { λ r. ⌜ r ≡ orZero (ofBlock (now (image .entry)) k checkOf) ⌝ }
@@ -35,37 +35,22 @@ pub extern "C" fn bm_stepped_check(image: &[u8], k: usize) -> u64
     }
 }
 
-fn packed(tag: u8, n: u8, a: usize, b: usize) -> u64
-    ensures { λ r. ⌜ r ≡ pack tag n a b ⌝ }
-{
-    (tag as u64)
-        + 0x100 * (n as u64)
-        + 0x1_0000 * ((a % 65536) as u64)
-        + 0x1_0000_0000 * ((b % 65536) as u64)
-}
-
 // The model's refusal: 0 where there is none.
 #[no_mangle]
 pub extern "C" fn bm_read_model(image: &[u8]) -> u64
-    ensures { λ r. ⌜ r ≡ packModel (readModel (now (image .entry))) ⌝ }
+    ensures { λ r. ⌜ r ≡ packCall (readModel (now (image .entry))) ⌝ }
 {
-    let read = model::reading::read(image);
+    let read = model::read(image);
     let answer = read.answer;
-    match answer {
-        Answer::Held => 0,
-        Answer::Refused(r) => packed(2, r.number, r.place, r.second),
-    }
+    packing::of_call(answer)
 }
 
-fn of_verdict(v: Verdict) -> u64
-    ensures { λ r. ⌜ r ≡ packVerdict (verdictIn v) ⌝ }
+// The refusal of the model, then of the estimate: 0 where there is none. No clause is tried.
+#[no_mangle]
+pub extern "C" fn bm_read_estimate(model: &[u8], estimate: &[u8]) -> u64
+    ensures { λ r. ⌜ r ≡ packVerdict (clauses.readBoth (now (model .entry)) (now (estimate .entry))) ⌝ }
 {
-    match v {
-        Verdict::Accepted => 0,
-        Verdict::Breaks(x) => packed(1, x.clause, x.boxno, x.place),
-        Verdict::RefusedModel(r) => packed(2, r.number, r.place, r.second),
-        Verdict::RefusedEstimate(r) => packed(3, r.number, r.place, r.second),
-    }
+    packing::of_verdict(analysis::read_estimate(model, estimate))
 }
 
 // The checker's verdict.
@@ -73,18 +58,7 @@ fn of_verdict(v: Verdict) -> u64
 pub extern "C" fn bm_check(model: &[u8], estimate: &[u8]) -> u64
     ensures { λ r. ⌜ r ≡ packVerdict (clauses.check (now (model .entry)) (now (estimate .entry))) ⌝ }
 {
-    of_verdict(analysis::check(model, estimate))
-}
-
-fn of_reply(a: Reply) -> u64
-    ensures { λ r. ⌜ r ≡ packReply (replyIn a) ⌝ }
-{
-    match a {
-        Reply::NotAccepted(v) => of_verdict(v),
-        Reply::Nobody => packed(6, 12, 0, 0),
-        Reply::Yes => 4,
-        Reply::No => 5,
-    }
+    packing::of_verdict(analysis::check(model, estimate))
 }
 
 // Whether box h is shut off.
@@ -92,18 +66,65 @@ fn of_reply(a: Reply) -> u64
 pub extern "C" fn bm_shut_off(model: &[u8], estimate: &[u8], h: u32) -> u64
     ensures { λ r. ⌜ r ≡ packReply (question (now (model .entry)) (now (estimate .entry)) h) ⌝ }
 {
-    of_reply(analysis::shut_off(model, estimate, h))
+    packing::of_reply(analysis::shut_off(model, estimate, h))
+}
+
+// A model is started into the lent words.
+#[no_mangle]
+pub extern "C" fn bm_start(model: &[u8], state: &mut [u32]) -> u64
+    ensures answer { λ r. ⌜ r ≡ packCall (calls.start (now (model .entry)) (now (state .entry)) .answer) ⌝ }
+    ensures words { λ _. ⌜ now (state .exit) ≡ calls.start (now (model .entry)) (now (state .entry)) .words ⌝ }
+{
+    packing::of_call(start::start(model, state))
+}
+
+// A move: its kind, box, thread, second box and second thread.
+#[no_mangle]
+pub extern "C" fn bm_step(
+    model: &[u8],
+    state: &mut [u32],
+    kind: u32,
+    b: u32,
+    t: u32,
+    c: u32,
+    u: u32,
+) -> u64
+    ensures answer { λ r. ⌜ r ≡ packCall (calls.step (now (model .entry)) (now (state .entry)) (moveOf kind b t c u) .answer) ⌝ }
+    ensures words { λ _. ⌜ now (state .exit) ≡ calls.step (now (model .entry)) (now (state .entry)) (moveOf kind b t c u) .words ⌝ }
+{
+    packing::of_call(reduction::step(model, state, kind, b, t, c, u))
+}
+
+// The moves of a list in turn, each with its answer.
+#[no_mangle]
+pub extern "C" fn bm_run(model: &[u8], state: &mut [u32], moves: &[Move], answers: &mut [u8]) -> u64
+    ensures { λ r. ⌜ (r ≡ packCall (calls.run (now (model .entry)) (now (state .entry)) (movesIn (now (moves .entry))) (now (answers .entry)) .answer)) × (now (state .exit) ≡ calls.run (now (model .entry)) (now (state .entry)) (movesIn (now (moves .entry))) (now (answers .entry)) .words) × (now (answers .exit) ≡ calls.run (now (model .entry)) (now (state .entry)) (movesIn (now (moves .entry))) (now (answers .entry)) .answers) ⌝ }
+{
+    packing::of_call(runs::run(model, state, moves, answers))
+}
+
+// Where the refused block stands: in which image, at which block, and how many bytes.
+#[no_mangle]
+pub extern "C" fn bm_refused_block(model: &[u8], estimate: &[u8]) -> u64
+    ensures { λ r. ⌜ r ≡ packPart (now (model .entry)) (now (estimate .entry)) (clauses.readBoth (now (model .entry)) (now (estimate .entry))) ⌝ }
+{
+    packing::of_part(model, estimate, analysis::read_estimate(model, estimate))
 }
 
 // The refused block, copied to the front of a lent buffer.
 #[no_mangle]
-pub extern "C" fn bm_refused_block<'a>(model: &'a [u8], estimate: &'a [u8], out: &mut [u8]) -> u64
-    ensures count { λ r. ⌜ r ≡ copiedCount (refusedBlock (now (model .entry)) (now (estimate .entry))) (now (out .entry)) ⌝ }
+pub extern "C" fn bm_copy_refused_block<'a>(
+    model: &'a [u8],
+    estimate: &'a [u8],
+    out: &mut [u8],
+) -> u64
+    ensures answer { λ r. ⌜ r ≡ packCopied (refusedBlock (now (model .entry)) (now (estimate .entry))) (now (out .entry)) ⌝ }
     ensures bytes { λ _. ⌜ now (out .exit) ≡ copied (refusedBlock (now (model .entry)) (now (estimate .entry))) (now (out .entry)) ⌝ }
 {
     let part = analysis::refused_block(model, estimate);
     if out.len() < part.len() {
-        return 1024;
+        return 7;
     }
-    bytes::copy(part, out) as u64
+    let n = bytes::copy(part, out);
+    packing::packed(0, 0, n, 0)
 }

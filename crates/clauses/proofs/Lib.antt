@@ -1,3 +1,2 @@
 pub mod Members
-pub mod Unions
 pub mod Tests

@@ -1,39 +1,112 @@
--- Clauses of several tests: one after another, each on what called functions answered. Assumes nothing.
+-- The clauses of several tests, each on what called functions answered; and those that the code knows by a flag or a table. Assumes nothing.
 use mathlib.Core.Path.{_≡_, refl, sym, ap, ap₂, _∙_}
-use mathlib.Core.Bool.{Bool, true, false}
+use mathlib.Core.Bool.{Bool, true, false, not}
+use mathlib.Core.List.{List}
 use Prim.Native.Nat.{ℕ}
 use borrow.Author.Needs.{needs}
+use lib.ListN.{getD}
 use Rattle.definitions.specs.Bounded.{_and_, _implies_, _is_, _isnt_}
+use Rattle.definitions.specs.Sets.{has, forEach, within}
+use Rattle.definitions.specs.Model.{Site, Line, kindOfName}
+use Rattle.definitions.specs.Estimate.{Estimate}
+use Rattle.definitions.specs.Clauses.{clause1, clause2, clause4, clause5, clause7}
 use Rattle.definitions.proofs.Bounded.{is-iff, isnt-iff, true-of, false-of}
-use Rattle.definitions.proofs.Loops.{fails, holds}
-use Rattle.clauses.proofs.Members.{has-as, within-as, typed-as}
+use Rattle.definitions.proofs.Sets.{and-true}
+use Rattle.clauses.specs.Known.{Clause1Of, Decides, Clause6Of}
+use Rattle.clauses.proofs.Members.{walks}
 
--- two tests
-module _ (a b x : Bool) (e : x ≡ a) where
-  pub two-no : x ≡ false → false ≡ (a and b)
-  unfolding _and_
-  two-no t = sym (ap (λ (z : Bool). z and b) (sym e ∙ t))
+not-not : (b : Bool) → not (not b) ≡ b
+not-not true = refl
+not-not false = refl
 
-  pub two-yes : (y : Bool) → x ≡ true → y ≡ b → y ≡ (a and b)
-  unfolding _and_
-  two-yes y t f = f ∙ sym (ap (λ (z : Bool). z and b) (sym e ∙ t))
+-- ---- clause 1
 
--- one of two tests, as a number is 0 or not
-module _ (n : ℕ) (a b r : Bool) where
-  pub zero-asks : n ≡ 0 → r ≡ a → r ≡ ((n is 0 implies a) and (n isnt 0 implies b))
-  unfolding _and_ _implies_
-  zero-asks z e =
-      e
-      ∙ sym (ap₂ (λ (x y : Bool). (x implies a) and (y implies b)) (true-of (n is 0) (is-iff n 0 .1 z)) (false-of (n isnt 0) (λ t. isnt-iff n 0 .0 t z)) ∙ last a)
-    where
-      last : (d : Bool) → (d and true) ≡ d
-      last true = refl
-      last false = refl
+module _ (e : Estimate) (free : Bool) (n : ℕ) where
+  pub one-free : (r : Bool) → free ≡ true → r ≡ has (e .rho n) n → Clause1Of e free n r
+  unfolding clause1 _implies_
+  one-free r t q = record { same = λ kinds k. q ∙ sym (ap (λ (x : Bool). x implies has (e .rho n) n) (sym k ∙ t)) }
 
-  pub other-asks : (n ≡ 0 → ⊥) → r ≡ b → r ≡ ((n is 0 implies a) and (n isnt 0 implies b))
-  unfolding _and_ _implies_
-  other-asks z e =
-      e
-      ∙ sym (ap₂ (λ (x y : Bool). (x implies a) and (y implies b)) (false-of (n is 0) (λ t. z (is-iff n 0 .0 t))) (true-of (n isnt 0) (isnt-iff n 0 .1 z)))
+  pub one-other : free ≡ false → Clause1Of e free n true
+  unfolding clause1 _implies_
+  one-other t = record { same = λ kinds k. sym (ap (λ (x : Bool). x implies has (e .rho n) n) (sym k ∙ t)) }
 
-pub ruleset clauses = (needs, fails, holds, has-as, within-as, typed-as, two-no, two-yes, zero-asks, other-asks)
+-- ---- clause 2
+
+no-and : (b : Bool) → (b and false) ≡ false
+unfolding _and_
+no-and true = refl
+no-and false = refl
+
+module _ (e : Estimate) (b : ℕ) (s : Site) (x : Bool) (ex : x ≡ within (s .type) (e .eps b (s .subject))) where
+  pub two-type : x ≡ false → false ≡ clause2 e b s
+  unfolding clause2
+  two-type t =
+      let c = (s .flag is 0 implies has (e .shown b) (s .subject)) and (s .flag isnt 0 implies has (e .hidden b) (s .subject)) in
+      sym (ap (λ (y : Bool). c and y) (sym ex ∙ t) ∙ no-and c)
+
+  module _ (t : x ≡ true) (r : Bool) where
+    asked : (f g : Bool) → (s .flag is 0) ≡ f → (s .flag isnt 0) ≡ g
+        → clause2 e b s ≡ ((f implies has (e .shown b) (s .subject)) and (g implies has (e .hidden b) (s .subject)))
+    unfolding clause2
+    asked f g ef eg =
+        let c : Bool → Bool → Bool = λ u v. (u implies has (e .shown b) (s .subject)) and (v implies has (e .hidden b) (s .subject)) in
+        ap₂ (λ (u v : Bool). c u v and within (s .type) (e .eps b (s .subject))) ef eg ∙ ap (λ (y : Bool). c f g and y) (sym ex ∙ t) ∙ and-true (c f g)
+
+    pub two-shown : s .flag ≡ 0 → r ≡ has (e .shown b) (s .subject) → r ≡ clause2 e b s
+    unfolding _implies_ _and_
+    two-shown z q =
+        q
+        ∙ sym (asked true false (true-of (s .flag is 0) (is-iff (s .flag) 0 .1 z)) (false-of (s .flag isnt 0) (λ u. isnt-iff (s .flag) 0 .0 u z))
+        ∙ and-true (has (e .shown b) (s .subject)))
+
+    pub two-hidden : (s .flag ≡ 0 → ⊥) → r ≡ has (e .hidden b) (s .subject) → r ≡ clause2 e b s
+    unfolding _implies_ _and_
+    two-hidden z q =
+        q ∙ sym (asked false true (false-of (s .flag is 0) (λ u. z (is-iff (s .flag) 0 .0 u))) (true-of (s .flag isnt 0) (isnt-iff (s .flag) 0 .1 z)))
+
+-- ---- clauses 4, 5 and 6, where s is rho(p) and q is rho(q)
+
+module _ (e : Estimate) (l : Line) (s q : ℕ) (r : Bool) (es : s ≡ e .rho (l .name1)) (eq : q ≡ e .rho (l .name2)) where
+  pub four-is : (b : ℕ) → r ≡ forEach s (λ a. within q (e .kap b a)) → r ≡ clause4 e b l
+  unfolding clause4
+  four-is b k = k ∙ ap₂ (λ (x y : ℕ). forEach x (λ a. within y (e .kap b a))) es eq
+
+  pub five-is : (b : ℕ) → r ≡ forEach s (λ a. within (e .kap b a) q) → r ≡ clause5 e b l
+  unfolding clause5
+  five-is b k = k ∙ ap₂ (λ (x y : ℕ). forEach x (λ a. within (e .kap b a) y)) es eq
+
+  pub six-is : (t : List ℕ) → r ≡ forEach s (λ a. within (getD t a 0) q) → Clause6Of e t l r
+  six-is t k = record { same = λ boxes b d. k ∙ ap₂ (λ (x y : ℕ). forEach x (λ a. within (getD t a 0) y)) es eq ∙ d .same }
+
+-- ---- clause 7
+
+module _ (e : Estimate) (b : ℕ) (l : Line) (s : ℕ) (x : Bool) (es : s ≡ e .rho (l .name1)) (ex : x ≡ has s (l .name1)) where
+  type-of : Bool
+  type-of = forEach (l .type) (λ g. within (e .rho g) (e .eps b (l .name1)))
+
+  own : (v : Bool) → not x ≡ v → has (e .rho (l .name1)) (l .name1) ≡ not v
+  own v t = sym (ex ∙ ap (λ (z : ℕ). has z (l .name1)) es) ∙ sym (not-not x) ∙ ap not t
+
+  pub seven-own : not x ≡ true → false ≡ clause7 e b l
+  unfolding clause7 _and_ type-of
+  seven-own t = sym (ap (λ (u : Bool). u and has (e .shown b) (l .name1) and type-of) (own true t))
+
+  module _ (d : ℕ) (y : Bool) (ed : d ≡ e .shown b) (ey : y ≡ has d (l .name1)) (t : not x ≡ false) where
+    shown : (v : Bool) → not y ≡ v → has (e .shown b) (l .name1) ≡ not v
+    shown v i = sym (ey ∙ ap (λ (z : ℕ). has z (l .name1)) ed) ∙ sym (not-not y) ∙ ap not i
+
+    pub seven-shown : not y ≡ true → false ≡ clause7 e b l
+    unfolding clause7 _and_ type-of
+    seven-shown i = sym (ap₂ (λ (u v : Bool). u and v and type-of) (own false t) (shown true i))
+
+    pub seven-type : (r : Bool) (z : ℕ) → not y ≡ false → z ≡ e .eps b (l .name1) → r ≡ forEach (l .type) (λ g. within (e .rho g) z) → r ≡ clause7 e b l
+    unfolding clause7 _and_ type-of
+    seven-type r z i ez q =
+        q ∙ ap (λ (j : ℕ). forEach (l .type) (λ g. within (e .rho g) j)) ez
+        ∙ sym (ap₂ (λ (u v : Bool). u and v and type-of) (own false t) (shown false i))
+
+pub ruleset clauses = (walks, one-free, one-other, two-type, two-shown, two-hidden)
+
+pub ruleset walked = (walks, four-is, five-is, six-is)
+
+pub ruleset sevens = (needs, seven-own, seven-shown, seven-type)

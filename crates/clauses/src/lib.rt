@@ -1,85 +1,155 @@
-// The clauses' tests at one name, site or line, over an estimate that has been read, names' numbers and sets of them.
+// The clauses, each as a test at one name, site or line, over an estimate that has been read.
 ghost use mathlib.Core.Path.{_≡_};
 ghost use Prim.Native.Nat.{_+_, _*_, _<_, _≤_};
-ghost use lib.ListN.{length};
-ghost use Rattle.definitions.specs.Bounded.{_and_, _implies_, _is_, _isnt_};
+ghost use lib.ListN.{length, getD};
 ghost use Rattle.definitions.specs.Sets as names;
 ghost use Rattle.definitions.specs.Estimate.{estimateOf};
-ghost use Rattle.clauses.specs.Asks.{Few, typedIn};
+ghost use Rattle.definitions.specs.Clauses as clauses;
+ghost use Rattle.records.specs.Records.{siteIn, lineIn};
+ghost use Rattle.sets.specs.Names.{NamesOnly};
+ghost use Rattle.clauses.specs.Known.{BoxOfNames, LineOfNames, Clause1Of, Clause6Of};
+use records::Line;
+use records::Site;
 use sets::NameNo;
 
-pub mod gather;
-pub mod links;
-pub mod walks;
-
-// n in rho(n): clauses 1 and 3.
-pub fn own(estimate: &[u8], n: NameNo) -> bool
+// 1. free n: n in rho(n).
+pub fn clause1(estimate: &[u8], free: bool, n: NameNo) -> bool
     requires { ⌜ (512 ≤ length (now estimate)) × (n .0 < 62) ⌝ }
-    ensures { λ r. ⌜ r ≡ names.has (estimateOf (now (estimate .entry)) .rho (n .0)) (n .0) ⌝ }
+    ensures { λ r. ⌜ Clause1Of (estimateOf (now (estimate .entry))) free (n .0) r ⌝ }
 {
-    sets::has(estimate::rho(estimate, n), n)
-}
-
-// Clause 2, first half: the subject of a site is in shown(b) or hidden(b) as its byte says.
-fn placed(estimate: &[u8], b: usize, subject: NameNo, flag: u8) -> bool
-    requires { ⌜ 512 * (2 + 2 * b) ≤ length (now estimate) ⌝ }
-    ensures { λ r. ⌜ r ≡ ((flag is 0 implies names.has (estimateOf (now (estimate .entry)) .shown b) (subject .0)) and (flag isnt 0 implies names.has (estimateOf (now (estimate .entry)) .hidden b) (subject .0))) ⌝ }
-{
-    if flag == 0 {
-        sets::has(estimate::shown(estimate, b), subject)
+    if free {
+        sets::contains(estimate::rho(estimate, n), n)
     } else {
-        sets::has(estimate::hidden(estimate, b), subject)
+        true
     }
 }
 
-// Clause 2: and its type is within eps(b, subject).
-pub fn site(estimate: &[u8], b: usize, subject: NameNo, flag: u8, set: u64) -> bool
-    requires { ⌜ (512 * (2 + 2 * b) ≤ length (now estimate)) × (subject .0 < 62) ⌝ }
-    ensures { λ r. ⌜ r ≡ ((flag is 0 implies names.has (estimateOf (now (estimate .entry)) .shown b) (subject .0)) and (flag isnt 0 implies names.has (estimateOf (now (estimate .entry)) .hidden b) (subject .0)) and names.within set (estimateOf (now (estimate .entry)) .eps b (subject .0))) ⌝ }
+// 2. starting site: its subject in shown(b) or hidden(b) as its byte says; its type within eps(b, subject).
+pub fn clause2(estimate: &[u8], b: usize, s: Site) -> bool
+    requires { ⌜ (512 * (2 + 2 * b) ≤ length (now estimate)) × (s .subject .0 < 62) ⌝ }
+    ensures { λ r. ⌜ r ≡ clauses.clause2 (estimateOf (now (estimate .entry))) b (siteIn s) ⌝ }
 {
-    if placed(estimate, b, subject, flag) {
-        sets::within(set, estimate::eps(estimate, b, subject))
+    if !sets::is_subset(s.names, estimate::eps(estimate, b, s.subject)) {
+        return false;
+    }
+    if s.flag == 0 {
+        sets::contains(estimate::shown(estimate, b), s.subject)
     } else {
-        false
+        sets::contains(estimate::hidden(estimate, b), s.subject)
     }
 }
 
-// Clause 7, first half: n in rho(n) and in shown(b).
-fn own_shown(estimate: &[u8], b: usize, n: NameNo) -> bool
-    requires { ⌜ (512 * (2 + 2 * b) ≤ length (now estimate)) × (n .0 < 62) ⌝ }
-    ensures { λ r. ⌜ r ≡ (names.has (estimateOf (now (estimate .entry)) .rho (n .0)) (n .0) and names.has (estimateOf (now (estimate .entry)) .shown b) (n .0)) ⌝ }
+// 3. restriction of n: n in rho(n).
+pub fn clause3(estimate: &[u8], l: Line) -> bool
+    requires { ⌜ (512 ≤ length (now estimate)) × (l .name1 .0 < 62) ⌝ }
+    ensures { λ r. ⌜ r ≡ clauses.clause3 (estimateOf (now (estimate .entry))) (lineIn l) ⌝ }
 {
-    if own(estimate, n) {
-        sets::has(estimate::shown(estimate, b), n)
-    } else {
-        false
+    sets::contains(estimate::rho(estimate, l.name1), l.name1)
+}
+
+// 4. output on p of q: for each a in rho(p), rho(q) within kap(b, a).
+pub fn clause4(estimate: &[u8], b: usize, l: Line) -> bool
+    requires { ⌜ BoxOfNames (now estimate) b × LineOfNames (lineIn l) ⌝ }
+    ensures { λ r. ⌜ r ≡ clauses.clause4 (estimateOf (now (estimate .entry))) b (lineIn l) ⌝ }
+{
+    let q = estimate::rho(estimate, l.name2);
+    let mut left = estimate::rho(estimate, l.name1);
+    while left != 0 {
+        let a = sets::lowest(left);
+        if !sets::is_subset(q, estimate::kap(estimate, b, a)) {
+            return false;
+        }
+        left = sets::without_lowest(left);
     }
+    true
 }
 
-// Clause 7: and rho(g) within eps(b, n) for each g of the type.
-pub fn exposed(estimate: &[u8], b: usize, n: NameNo, set: u64) -> bool
-    requires { ⌜ (512 * (2 + 2 * b) ≤ length (now estimate)) × (n .0 < 62) × Few set ⌝ }
-    ensures { λ r. ⌜ r ≡ (names.has (estimateOf (now (estimate .entry)) .rho (n .0)) (n .0) and names.has (estimateOf (now (estimate .entry)) .shown b) (n .0) and typedIn (estimateOf (now (estimate .entry))) set (estimateOf (now (estimate .entry)) .eps b (n .0))) ⌝ }
+// 5. input on p into q: for each a in rho(p), kap(b, a) within rho(q).
+pub fn clause5(estimate: &[u8], b: usize, l: Line) -> bool
+    requires { ⌜ BoxOfNames (now estimate) b × LineOfNames (lineIn l) ⌝ }
+    ensures { λ r. ⌜ r ≡ clauses.clause5 (estimateOf (now (estimate .entry))) b (lineIn l) ⌝ }
 {
-    if own_shown(estimate, b, n) {
-        walks::typed(estimate, set, estimate::eps(estimate, b, n))
-    } else {
-        false
+    let q = estimate::rho(estimate, l.name2);
+    let mut left = estimate::rho(estimate, l.name1);
+    while left != 0 {
+        let a = sets::lowest(left);
+        if !sets::is_subset(estimate::kap(estimate, b, a), q) {
+            return false;
+        }
+        left = sets::without_lowest(left);
     }
+    true
 }
 
-// Clause 8: rho(p) within hidden(b).
-pub fn hidden(estimate: &[u8], b: usize, p: NameNo) -> bool
-    requires { ⌜ (512 * (2 + 2 * b) ≤ length (now estimate)) × (p .0 < 62) ⌝ }
-    ensures { λ r. ⌜ r ≡ names.within (estimateOf (now (estimate .entry)) .rho (p .0)) (estimateOf (now (estimate .entry)) .hidden b) ⌝ }
+fn entry(table: &[u64; 64], a: NameNo) -> u64
+    requires { ⌜ (length (now table) ≡ 64) × (a .0 < 64) ⌝ }
+    ensures { λ r. ⌜ r ≡ getD (now (table .entry)) (a .0) 0 ⌝ }
 {
-    sets::within(estimate::rho(estimate, p), estimate::hidden(estimate, b))
+    table[a.0 as usize]
 }
 
-// Clause 9: rho(p) within shown(b).
-pub fn shown(estimate: &[u8], b: usize, p: NameNo) -> bool
-    requires { ⌜ (512 * (2 + 2 * b) ≤ length (now estimate)) × (p .0 < 62) ⌝ }
-    ensures { λ r. ⌜ r ≡ names.within (estimateOf (now (estimate .entry)) .rho (p .0)) (estimateOf (now (estimate .entry)) .shown b) ⌝ }
+// 6. same line, by a table of what the clause asks at each name of the box: for each a in rho(p), its entry within rho(q).
+pub fn clause6(estimate: &[u8], table: &[u64; 64], l: Line) -> bool
+    requires { ⌜ (512 ≤ length (now estimate)) × LineOfNames (lineIn l) × (length (now table) ≡ 64) ⌝ }
+    ensures { λ r. ⌜ Clause6Of (estimateOf (now (estimate .entry))) (now (table .entry)) (lineIn l) r ⌝ }
 {
-    sets::within(estimate::rho(estimate, p), estimate::shown(estimate, b))
+    let q = estimate::rho(estimate, l.name2);
+    let mut left = estimate::rho(estimate, l.name1);
+    while left != 0 {
+        let a = sets::lowest(left);
+        if !sets::is_subset(entry(table, a), q) {
+            return false;
+        }
+        left = sets::without_lowest(left);
+    }
+    true
+}
+
+// rho(g) within x for each g in s.
+fn types_within(estimate: &[u8], s: u64, x: u64) -> bool
+    requires { ⌜ (512 ≤ length (now estimate)) × NamesOnly s ⌝ }
+    ensures { λ r. ⌜ r ≡ names.forEach s (λ g. names.within (estimateOf (now (estimate .entry)) .rho g) x) ⌝ }
+{
+    let mut left = s;
+    while left != 0 {
+        let g = sets::lowest(left);
+        if !sets::is_subset(estimate::rho(estimate, g), x) {
+            return false;
+        }
+        left = sets::without_lowest(left);
+    }
+    true
+}
+
+// 7. expose n: n in rho(n) and in shown(b); rho(g) within eps(b, n) for each g of the type.
+pub fn clause7(estimate: &[u8], b: usize, l: Line) -> bool
+    requires { ⌜ BoxOfNames (now estimate) b × LineOfNames (lineIn l) ⌝ }
+    ensures { λ r. ⌜ r ≡ clauses.clause7 (estimateOf (now (estimate .entry))) b (lineIn l) ⌝ }
+{
+    let n = l.name1;
+    if !sets::contains(estimate::rho(estimate, n), n) {
+        return false;
+    }
+    if !sets::contains(estimate::shown(estimate, b), n) {
+        return false;
+    }
+    types_within(estimate, l.names, estimate::eps(estimate, b, n))
+}
+
+// 8. hide p: rho(p) within hidden(b).
+pub fn clause8(estimate: &[u8], b: usize, l: Line) -> bool
+    requires { ⌜ (512 * (2 + 2 * b) ≤ length (now estimate)) × (l .name1 .0 < 62) ⌝ }
+    ensures { λ r. ⌜ r ≡ clauses.clause8 (estimateOf (now (estimate .entry))) b (lineIn l) ⌝ }
+{
+    let p = estimate::rho(estimate, l.name1);
+    sets::is_subset(p, estimate::hidden(estimate, b))
+}
+
+// 9. unhide p: rho(p) within shown(b).
+pub fn clause9(estimate: &[u8], b: usize, l: Line) -> bool
+    requires { ⌜ (512 * (2 + 2 * b) ≤ length (now estimate)) × (l .name1 .0 < 62) ⌝ }
+    ensures { λ r. ⌜ r ≡ clauses.clause9 (estimateOf (now (estimate .entry))) b (lineIn l) ⌝ }
+{
+    let p = estimate::rho(estimate, l.name1);
+    sets::is_subset(p, estimate::shown(estimate, b))
 }

@@ -9,7 +9,7 @@ use lib.Dec.{lit<}
 use lib.ListN.{drop}
 use lib.Seq.{drop-drop}
 use Rattle.definitions.specs.Words.{wordAt, wordsOf, blockOf}
-use Rattle.definitions.specs.Check.{checkFrom, checkOf, checkHeld}
+use Rattle.definitions.specs.Check.{checkFrom, checkOf, storedCheck}
 use Rattle.definitions.proofs.Words.{wordAt-block, wordAt-drop, wordsOf-block}
 
 -- ---- of a block, as of the image from the block on
@@ -18,9 +18,9 @@ pub checkOf-block : (image : List ℕ) (k : ℕ) → checkOf (blockOf image k) �
 unfolding checkOf
 checkOf-block image k = ap (checkFrom 1) (wordsOf-block image k 63 (omega arith))
 
-pub checkHeld-block : (image : List ℕ) (k : ℕ) → checkHeld (blockOf image k) ≡ wordAt image (512 * k + 504)
-unfolding checkHeld
-checkHeld-block image k = wordAt-block image k 504 (omega arith)
+pub storedCheck-block : (image : List ℕ) (k : ℕ) → storedCheck (blockOf image k) ≡ wordAt image (512 * k + 504)
+unfolding storedCheck
+storedCheck-block image k = wordAt-block image k 504 (omega arith)
 
 -- ---- one word at a time, with n words to go from place p
 

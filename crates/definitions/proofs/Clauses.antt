@@ -1,17 +1,18 @@
 -- Each clause as a statement about members, as document 01 has it; the tests say the same, and no clause is the first broken one
--- exactly when all hold everywhere. Assumes nothing.
+-- exactly when all are met everywhere. Assumes nothing.
 use mathlib.Core.Path.{_≡_}
 use mathlib.Core.Bool.{Bool, true, false, not}
+use mathlib.Core.List.{List}
 use mathlib.Core.Logic.{_↔_, _≢_}
 use mathlib.Core.Option.{none}
 use Prim.Native.Nat.{ℕ, _<_}
 use lib.Dec.{T}
 use lib.ListN.{length}
-use Rattle.definitions.specs.Bounded.{_and_, _is_, faultIf}
+use Rattle.definitions.specs.Bounded.{_and_, _is_, someIf}
 use Rattle.definitions.specs.Sets.{has}
-use Rattle.definitions.specs.Model.{Site, Line, Model, siteAt, lineAt, boxAt, siteCount, lineCount, boxCount, kind, restriction, output, input, expose, hide, unhide}
+use Rattle.definitions.specs.Model.{Site, Line, Model, siteAt, lineAt, boxAt, siteCount, lineCount, boxCount, kindOfName, restriction, output, input, expose, hide, unhide}
 use Rattle.definitions.specs.Estimate.{Estimate}
-use Rattle.definitions.specs.Clauses.{clause1, clause2, clause3, clause4, clause5, clause6, clause7, clause8, clause9, lineBroken, siteBroken, boxBroken, firstBroken}
+use Rattle.definitions.specs.Clauses.{clause1, clause2, clause3, clause4, clause5, clause6, clause7, clause8, clause9, asks, lineBroken, nameBroken, siteBroken, boxBroken, firstBroken}
 use Rattle.definitions.proofs.Bounded.{tests, and-iff, is-iff, fault-none, none-fault}
 use Rattle.definitions.proofs.Sets.{forEach-iff, forSome-iff, within-iff, meets-iff}
 use Rattle.definitions.proofs.Faults.{faults, not-iff}
@@ -37,10 +38,10 @@ pub ruleset sets = (tests, not-iff, forEach-iff, forSome-iff, within-iff, meets-
 
 -- ---- the clauses
 
-module _ (m : Model) (e : Estimate) where
+module _ (e : Estimate) where
   -- 1. Free n: n in rho(n).
-  abbrev pub Clause1 : ℕ → Type 0
-  Clause1 n = kind (m .kinds) n ≡ 0 → T (has (e .rho n) n)
+  abbrev pub Clause1 : List ℕ → ℕ → Type 0
+  Clause1 kinds n = kindOfName kinds n ≡ 0 → T (has (e .rho n) n)
 
   -- 2. Starting site: subject in shown(b) or hidden(b) as its byte says; its type within eps(b, subject).
   pub record Clause2 (b : ℕ) (s : Site) : Type 0 where
@@ -49,8 +50,8 @@ module _ (m : Model) (e : Estimate) where
     pub type : Within (s .type) (e .eps b (s .subject))
 
   -- 3. Restriction of n: n in rho(n).
-  abbrev pub Clause3 : ℕ → Line → Type 0
-  Clause3 b l = T (has (e .rho (l .name1)) (l .name1))
+  abbrev pub Clause3 : Line → Type 0
+  Clause3 l = T (has (e .rho (l .name1)) (l .name1))
 
   -- 4. Output on p of q: for each a in rho(p), rho(q) within kap(b,a).
   abbrev pub Clause4 : ℕ → Line → Type 0
@@ -62,9 +63,9 @@ module _ (m : Model) (e : Estimate) where
 
   -- 6. Same line: for each a in rho(p) and shown(b), each other box k and each c in shown(k) where eps(b,a) and eps(k,c) share a
   -- name, kap(k,c) within rho(q).
-  abbrev pub Clause6 : ℕ → Line → Type 0
-  Clause6 b l =
-      Each (e .rho (l .name1)) (λ a. T (has (e .shown b) a) → (k : ℕ) → k < boxCount m → k ≢ b
+  abbrev pub Clause6 : ℕ → ℕ → Line → Type 0
+  Clause6 boxes b l =
+      Each (e .rho (l .name1)) (λ a. T (has (e .shown b) a) → (k : ℕ) → k < boxes → k ≢ b
       → Each (e .shown k) (λ c. Share (e .eps b a) (e .eps k c) → Within (e .kap k c) (e .rho (l .name2))))
 
   -- 7. Expose n: n in rho(n) and in shown(b); rho(g) within eps(b,n) for each g of the type.
@@ -82,11 +83,11 @@ module _ (m : Model) (e : Estimate) where
   Clause9 b l = Within (e .rho (l .name1)) (e .shown b)
 
   -- each test says what its clause says
-  pub clause1-iff : (n : ℕ) → T (clause1 m e n) ↔ Clause1 n
+  pub clause1-iff : (kinds : List ℕ) (n : ℕ) → T (clause1 e kinds n) ↔ Clause1 kinds n
   unfolding clause1
-  clause1-iff n = (λ t. simp sets at t, λ c. simp sets c)
+  clause1-iff kinds n = (λ t. simp sets at t, λ c. simp sets c)
 
-  pub clause2-iff : (b : ℕ) (s : Site) → T (clause2 m e b s) ↔ Clause2 b s
+  pub clause2-iff : (b : ℕ) (s : Site) → T (clause2 e b s) ↔ Clause2 b s
   unfolding clause2
   clause2-iff b s = (
     λ t. let p = simp sets at t in record { shown = p .0 .0; hidden = p .0 .1; type = p .1 },
@@ -94,41 +95,41 @@ module _ (m : Model) (e : Estimate) where
   )
 
   module _ (b : ℕ) (l : Line) where
-    pub clause3-iff : T (clause3 m e b l) ↔ Clause3 b l
+    pub clause3-iff : T (clause3 e l) ↔ Clause3 l
     unfolding clause3
     clause3-iff = (λ t. t, λ c. c)
 
-    pub clause4-iff : T (clause4 m e b l) ↔ Clause4 b l
+    pub clause4-iff : T (clause4 e b l) ↔ Clause4 b l
     unfolding clause4
     clause4-iff = (λ t. simp sets at t, λ c. simp sets c)
 
-    pub clause5-iff : T (clause5 m e b l) ↔ Clause5 b l
+    pub clause5-iff : T (clause5 e b l) ↔ Clause5 b l
     unfolding clause5
     clause5-iff = (λ t. simp sets at t, λ c. simp sets c)
 
-    pub clause6-iff : T (clause6 m e b l) ↔ Clause6 b l
+    pub clause6-iff : (boxes : ℕ) → T (clause6 e boxes b l) ↔ Clause6 boxes b l
     unfolding clause6
-    clause6-iff = (λ t. simp sets at t, λ c. simp sets c)
+    clause6-iff boxes = (λ t. simp sets at t, λ c. simp sets c)
 
-    pub clause7-iff : T (clause7 m e b l) ↔ Clause7 b l
+    pub clause7-iff : T (clause7 e b l) ↔ Clause7 b l
     unfolding clause7
     clause7-iff = (
       λ t. let p = simp sets at t in record { self = p .0 .0; shown = p .0 .1; type = p .1 },
       λ c. simp sets ((c .self, c .shown), c .type),
     )
 
-    pub clause8-iff : T (clause8 m e b l) ↔ Clause8 b l
+    pub clause8-iff : T (clause8 e b l) ↔ Clause8 b l
     unfolding clause8
     clause8-iff = (λ t. simp sets at t, λ c. simp sets c)
 
-    pub clause9-iff : T (clause9 m e b l) ↔ Clause9 b l
+    pub clause9-iff : T (clause9 e b l) ↔ Clause9 b l
     unfolding clause9
     clause9-iff = (λ t. simp sets at t, λ c. simp sets c)
 
 -- ---- all clauses, everywhere
 
 -- a line of an operation is asked a question
-pub asked-iff : {A : Type 0} (op n : ℕ) (ok : Bool) (a : A) → (faultIf (op is n and not ok) a ≡ none) ↔ (op ≡ n → T ok)
+pub asked-iff : {A : Type 0} (op n : ℕ) (ok : Bool) (a : A) → (someIf (op is n and not ok) a ≡ none) ↔ (op ≡ n → T ok)
 asked-iff op n true a = (λ e q. tt, λ f. none-fault (op is n and false) a (λ t. and-iff (op is n) false .0 t .1))
 asked-iff op n false a = (
   λ e q. fault-none (op is n and true) a e (and-iff (op is n) true .1 (is-iff op n .1 q, tt)),
@@ -138,23 +139,23 @@ asked-iff op n false a = (
 module _ (m : Model) (e : Estimate) where
   -- the clauses of a line, by its operation
   pub record LineClauses (b : ℕ) (l : Line) : Type 0 where
-    pub restricted : l .op ≡ restriction → Clause3 m e b l
-    pub sent : l .op ≡ output → Clause4 m e b l
-    pub received : l .op ≡ input → Clause5 m e b l
-    pub crossed : l .op ≡ input → Clause6 m e b l
-    pub exposed : l .op ≡ expose → Clause7 m e b l
-    pub hid : l .op ≡ hide → Clause8 m e b l
-    pub unhid : l .op ≡ unhide → Clause9 m e b l
+    pub restricted : l .op ≡ restriction → Clause3 e l
+    pub sent : l .op ≡ output → Clause4 e b l
+    pub received : l .op ≡ input → Clause5 e b l
+    pub crossed : l .op ≡ input → Clause6 e (boxCount m) b l
+    pub exposed : l .op ≡ expose → Clause7 e b l
+    pub hid : l .op ≡ hide → Clause8 e b l
+    pub unhid : l .op ≡ unhide → Clause9 e b l
 
   pub record AllClauses : Type 0 where
-    pub names : (n : ℕ) → n < length (m .kinds) → Clause1 m e n
-    pub sites : (b : ℕ) → b < boxCount m → (i : ℕ) → i < siteCount (boxAt m b) → Clause2 m e b (siteAt (boxAt m b) i)
+    pub names : (n : ℕ) → n < length (m .kinds) → Clause1 e (m .kinds) n
+    pub sites : (b : ℕ) → b < boxCount m → (i : ℕ) → i < siteCount (boxAt m b) → Clause2 e b (siteAt (boxAt m b) i)
     pub lines : (b : ℕ) → b < boxCount m → (i : ℕ) → i < lineCount (boxAt m b) → LineClauses b (lineAt (boxAt m b) i)
 
   ruleset clauses = (faults, asked-iff, clause1-iff, clause2-iff, clause3-iff, clause4-iff, clause5-iff, clause6-iff, clause7-iff, clause8-iff, clause9-iff)
 
   pub line-iff : (b i : ℕ) → (lineBroken m e b i ≡ none) ↔ LineClauses b (lineAt (boxAt m b) i)
-  unfolding lineBroken
+  unfolding lineBroken asks
   line-iff b i = (
     λ z. let p = simp clauses at z in
         record {
@@ -170,7 +171,7 @@ module _ (m : Model) (e : Estimate) where
   )
 
   pub broken-iff : (firstBroken m e ≡ none) ↔ AllClauses
-  unfolding firstBroken boxBroken siteBroken
+  unfolding firstBroken nameBroken boxBroken siteBroken
   broken-iff = (
     λ z. let p = simp (clauses, line-iff) at z in
         record { names = p .0; sites = λ b h. p .1 b h .0; lines = λ b h. p .1 b h .1 },

@@ -1,11 +1,11 @@
--- The model that an image holds, entry by entry. Assumes nothing.
+-- The model of an image, entry by entry. Assumes nothing.
 use mathlib.Core.Path.{_≡_, refl, sym, ap, _∙_}
 use mathlib.Core.List.{List}
 use Prim.Native.Nat.{ℕ, _+_, _*_, _/_, _%_, _^_, _≤_, _<_}
 use native.Mathlib.Omega.{arith}
 use lib.ListN.{length, List·getD-eq-default}
 use Rattle.definitions.specs.Words.{blockOf, countOf, dataWord}
-use Rattle.definitions.specs.Model.{Site, Line, noSite, noLine, noBox, siteAt, lineAt, boxAt, siteCount, lineCount, boxCount, kind}
+use Rattle.definitions.specs.Model.{Site, Line, noSite, noLine, noBox, siteAt, lineAt, boxAt, siteCount, lineCount, boxCount, kindOfName}
 use Rattle.definitions.specs.Image.{siteRecord, lineRecord, nameCount, boxesOf, kindsOf, sitesBlock, linesOf, boxOfImage, modelOf}
 use Rattle.definitions.proofs.Bounded.{length-tabulate, getD-tabulate}
 
@@ -28,12 +28,12 @@ module _ (image : List ℕ) where
   unfolding kindsOf
   model-names = length-tabulate (nameCount image) (λ n. dataWord (blockOf image 0) (2 + n))
 
-  pub model-kind : (n : ℕ) → n < nameCount image → kind (kindsOf image) n ≡ dataWord (blockOf image 0) (2 + n)
-  unfolding kindsOf kind
+  pub model-kind : (n : ℕ) → n < nameCount image → kindOfName (kindsOf image) n ≡ dataWord (blockOf image 0) (2 + n)
+  unfolding kindsOf kindOfName
   model-kind n h = getD-tabulate (nameCount image) (λ n. dataWord (blockOf image 0) (2 + n)) 0 n h
 
-  pub kind-past : (n : ℕ) → nameCount image ≤ n → kind (kindsOf image) n ≡ 0
-  unfolding kind
+  pub kind-past : (n : ℕ) → nameCount image ≤ n → kindOfName (kindsOf image) n ≡ 0
+  unfolding kindOfName
   kind-past n h = List·getD-eq-default (kindsOf image) 0 (omega (arith, model-names))
 
   -- a box's sites and lines
@@ -88,5 +88,5 @@ module _ (block : List ℕ) (i w t : ℕ) (first : w ≡ dataWord block (2 * i))
   }
 
 -- the kind of a listed name, from the head's word
-pub kind-of : (image : List ℕ) (n m w : ℕ) → n < nameCount image → m ≡ n → w ≡ dataWord (blockOf image 0) (2 + m) → w ≡ kind (kindsOf image) n
+pub kind-of : (image : List ℕ) (n m w : ℕ) → n < nameCount image → m ≡ n → w ≡ dataWord (blockOf image 0) (2 + m) → w ≡ kindOfName (kindsOf image) n
 kind-of image n m w h q e = e ∙ ap (λ (i : ℕ). dataWord (blockOf image 0) (2 + i)) q ∙ sym (model-kind image n h)

@@ -15,8 +15,11 @@ pub mod Clauses
 pub mod ShutOff
 pub mod Slots
 pub mod Arrays
+pub mod TypeWords
+pub mod Start
 pub mod StateRules
 pub mod Moves
 pub mod Made
 pub mod Starred
-pub mod Images
+pub mod MoveRefusals
+pub mod Calls

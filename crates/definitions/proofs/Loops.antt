@@ -1,15 +1,28 @@
--- What a loop knows at its head, and the laws for its start, turn, early stop and end: a first fault, a test at every number, one after
--- another, and the members of a set. Assumes nothing.
-use mathlib.Core.Path.{_≡_, refl, sym, ap, subst, _∙_}
-use mathlib.Core.Bool.{Bool, true, false, not}
+-- What a loop knows at its head, and the laws for its start, turn, early stop and end: a test at every number and at some number, one
+-- after another, and a first fault. Assumes nothing.
+use mathlib.Core.Path.{_≡_, refl, sym, ap, ap₂, subst, _∙_}
+use mathlib.Core.Bool.{Bool, true, false, not, _&&_}
 use mathlib.Core.Option.{Option, none, some}
 use Prim.Native.Nat.{ℕ, _+_, _≤_, _<_, zero-le}
 use native.Mathlib.Nat.{le-antisymm, not-suc-le-zero}
+use native.Mathlib.Numerals.{add-one}
 use native.Mathlib.Omega.{arith}
 use native.Mathlib.Decide.{ℕ-discrete}
 use lib.Dec.{T}
-use Rattle.definitions.specs.Bounded.{allBelow, orElse, firstBelow}
-use Rattle.definitions.proofs.Bounded.{all-iff, true-of, of-true, false-of, not-false, first-zero, first-more, first-stop}
+use Rattle.definitions.specs.Bounded.{_and_, _or_, allBelow, anyBelow, orElse, firstBelow}
+use Rattle.definitions.proofs.Bounded.{
+  and-is,
+  all-iff,
+  any-iff,
+  all-more,
+  true-of,
+  of-true,
+  false-of,
+  not-false,
+  first-zero,
+  first-more,
+  first-stop,
+}
 
 -- ---- what the code tests with `!`
 
@@ -42,6 +55,55 @@ passing-stop n p i b l e t = sym (false-of (allBelow n p) (λ u. not-false (sym 
 pub passing-end : (n : ℕ) (p : ℕ → Bool) (i : ℕ) → Passing p i → n ≤ i → true ≡ allBelow n p
 passing-end n p i h l = sym (true-of (allBelow n p) (all-iff n p .1 (λ j k. h .each j (omega arith))))
 
+-- ---- a test at every number below n, joined with no branch
+
+pub record Joining (n : ℕ) (p : ℕ → Bool) (i : ℕ) (ok : Bool) : Type 0 where
+  pub upto : i ≤ n
+  pub same : ok ≡ allBelow i p
+
+module _ (n : ℕ) (p : ℕ → Bool) where
+  pub joining-start : Joining n p 0 true
+  unfolding allBelow
+  joining-start = record { upto = zero-le; same = refl }
+
+  pub joining-turn : (i : ℕ) (ok b : Bool) → Joining n p i ok → i < n → b ≡ p i → Joining n p (i + 1) (ok && b)
+  joining-turn i ok b h l e = record { upto = omega arith; same = and-is ok b ∙ ap₂ _and_ (h .same) e ∙ sym (all-more i p) }
+
+  pub joining-end : (i : ℕ) (ok : Bool) → Joining n p i ok → n ≤ i → ok ≡ allBelow n p
+  joining-end i ok h l = h .same ∙ ap (λ (m : ℕ). allBelow m p) (le-antisymm (h .upto) l)
+
+-- ---- a test at some number below n
+
+-- the test passes at no number below i
+pub record Missing (p : ℕ → Bool) (i : ℕ) : Type 0 where
+  pub each : (j : ℕ) → j < i → T (p j) → ⊥
+
+pub missing-start : (p : ℕ → Bool) → Missing p 0
+missing-start p = record { each = λ j h. absurd (omega arith) }
+
+pub missing-turn : (p : ℕ → Bool) (i : ℕ) (b : Bool) → Missing p i → b ≡ p i → b ≡ false → Missing p (i + 1)
+missing-turn p i b k e f = record { each = λ j h. pick j h (ℕ-discrete i j) }
+  where
+    pick : (j : ℕ) → j < i + 1 → Dec (i ≡ j) → T (p j) → ⊥
+    pick j h (yes q) t = not-false (sym e ∙ f) (subst (λ (n : ℕ). T (p n)) (sym q) t)
+    pick j h (no q) t = k .each j (omega arith) t
+
+pub missing-stop : (n : ℕ) (p : ℕ → Bool) (i : ℕ) (b : Bool) → i < n → b ≡ p i → b ≡ true → true ≡ anyBelow n p
+missing-stop n p i b h e f = sym (true-of (anyBelow n p) (any-iff n p .1 (i, h, of-true (sym e ∙ f))))
+
+pub missing-end : (n : ℕ) (p : ℕ → Bool) (i : ℕ) → Missing p i → n ≤ i → false ≡ anyBelow n p
+missing-end n p i k h =
+    sym (false-of (anyBelow n p) (λ t. let w = any-iff n p .0 t in k .each (w .0) (let q = w .1 in omega arith) (w .2)))
+
+-- whether it passes at some number below i, joined as the loop goes on
+pub any-start : (p : ℕ → Bool) → false ≡ anyBelow 0 p
+unfolding anyBelow
+any-start p = refl
+
+pub any-turn : (p : ℕ → Bool) (i : ℕ) (b c d : Bool) → b ≡ anyBelow i p → c ≡ p i → d ≡ (b or c) → d ≡ anyBelow (i + 1) p
+unfolding anyBelow
+any-turn p i b c d e f g = g ∙ ap (λ (x : Bool). x or c) e ∙ ap (λ (x : Bool). anyBelow i p or x) f ∙ sym (ap (λ (n : ℕ). anyBelow n p) (add-one i))
+
 -- ---- the first fault
 
 -- no fault before i
@@ -68,3 +130,18 @@ module _ {A : Type 0} where
 
   pub else-go : (x y r : Option A) → none ≡ x → r ≡ y → r ≡ orElse x y
   else-go x y r e q = q ∙ ap (λ (t : Option A). orElse t y) e
+
+-- ---- answers of code: `value r` says what the answer r means
+
+module _ {X A : Type 0} (value : X → Option A) (r : X) where
+  -- v means that there is nothing
+  pub answer-none : (v : X) → value v ≡ none → (x : Option A) → value r ≡ x → r ≡ v → none ≡ x
+  answer-none v m x e q = sym (ap value q ∙ m) ∙ e
+
+  -- v means a: it is the first of two, and the first of a run
+  module _ (v : X) (a : A) (m : value v ≡ some a) where
+    pub answer-else : (x y : Option A) → value r ≡ x → r ≡ v → value r ≡ orElse x y
+    answer-else x y e q = ap value q ∙ m ∙ else-stop x y a (sym (ap value q ∙ m) ∙ e)
+
+    pub answer-stop : (n : ℕ) (f : ℕ → Option A) (i : ℕ) → Passed n f i → i < n → value r ≡ f i → r ≡ v → value r ≡ firstBelow n f
+    answer-stop n f i p l e q = ap value q ∙ m ∙ passed-stop n f i a p l (sym (ap value q ∙ m) ∙ e)

@@ -1,20 +1,21 @@
 -- An estimate image is not refused exactly when its length is right and each of its blocks fits; and then its sets are of the model's
 -- names. Assumes nothing.
 use mathlib.Core.Path.{_≡_, ap, _∙_}
-use mathlib.Core.Logic.{_↔_, ⊎-elim}
+use mathlib.Core.Logic.{_↔_, _≢_, ⊎-elim}
 use mathlib.Core.Bool.{Bool}
 use mathlib.Core.List.{List}
 use mathlib.Core.Option.{none}
-use Prim.Native.Nat.{ℕ, _+_, _*_, _/_, _^_, _<_}
+use Prim.Native.Nat.{ℕ, _+_, _*_, _/_, _^_, _<_, _≤_}
 use native.Mathlib.Omega.{arith}
 use lib.Dec.{T}
 use lib.ListN.{length}
-use Rattle.definitions.specs.Bounded.{_is_}
-use Rattle.definitions.specs.Sets.{has}
+use Rattle.definitions.specs.Bounded.{_and_, _is_, _below_, _upto_}
+use Rattle.definitions.specs.Limits.{nameLimit, shownWord}
+use Rattle.definitions.specs.Sets.{has, noBitPast}
 use Rattle.definitions.specs.Words.{blockOf, countOf, dataWord}
 use Rattle.definitions.specs.Estimate.{epsBlock, kapBlock, estimateOf}
-use Rattle.definitions.specs.ReadEstimate.{noBitPast, setsFit, isSet, tableFault, readEstimate}
-use Rattle.definitions.proofs.Bounded.{tests, choice-iff, decide, not-false}
+use Rattle.definitions.specs.ReadEstimate.{setsFit, isSet, tableFault, readEstimate}
+use Rattle.definitions.proofs.Bounded.{tests, or-iff, choice-iff, decide, not-false}
 use Rattle.definitions.proofs.Sets.{has-none, past-iff}
 use Rattle.definitions.proofs.Faults.{faults}
 use Rattle.definitions.proofs.ReadModel.{Headed, block-iff}
@@ -64,7 +65,14 @@ read-estimate-iff names boxes image = (
   λ f. simp (faults, table-iff) (f .size, (f .rho, λ b h. (f .eps b h, f .kap b h))),
 )
 
--- ---- the sets of an estimate that is not refused hold no name past the list
+-- ---- the sets of an estimate that is not refused have no name past the list
+
+-- kinds 4 and 6 have no sets in words 60 and 61, whatever the number of names
+pub last-zero : (image : List ℕ) (names k asked box : ℕ) → TableFits image names k asked box → asked ≢ 5
+    → (i : ℕ) → 60 ≤ i → i < 62 → dataWord (blockOf image k) i ≡ 0
+last-zero image names k asked box f n i l h =
+    f .clear i h (λ t. ⊎-elim (λ a. let p = simp tests at a in absurd (omega (arith, p .1))) (λ a. let p = simp tests at a in n (p .0))
+    (or-iff (i below names and i below nameLimit) (asked is 5 and shownWord upto i) .0 t))
 
 table-names : (image : List ℕ) (names k asked box : ℕ) → TableFits image names k asked box
     → (i : ℕ) → i < 62 → (a : ℕ) → T (has (dataWord (blockOf image k) i) a) → a < names

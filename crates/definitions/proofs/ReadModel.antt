@@ -1,5 +1,5 @@
 -- When a model image is not refused: exactly when its length, each block in the order asked for, and each record of its model fit;
--- and then the model that it holds is valid. Assumes nothing.
+-- and then its model is valid. Assumes nothing.
 use mathlib.Core.Path.{_≡_, refl, sym, ap, _∙_}
 use mathlib.Core.Bool.{Bool, true, false}
 use mathlib.Core.List.{List}
@@ -12,11 +12,11 @@ use native.Mathlib.Omega.{arith}
 use native.Mathlib.Decide.{decLt, ℕ-discrete}
 use lib.Dec.{T, lit<, lit≤}
 use lib.ListN.{length, List·getD-eq-default}
-use Rattle.definitions.specs.Bounded.{_isnt_, _below_, faultIf, orElse}
-use Rattle.definitions.specs.Words.{byteAt, blockOf, numberOf, kindOf, boxOf, countOf, spareOf, dataWord}
-use Rattle.definitions.specs.Check.{checkOf, checkHeld}
+use Rattle.definitions.specs.Bounded.{_isnt_, _below_, someIf, orElse}
+use Rattle.definitions.specs.Words.{byteAt, blockOf, numberOf, kindOfBlock, boxOf, countOf, spareOf, dataWord}
+use Rattle.definitions.specs.Check.{checkOf, storedCheck}
 use Rattle.definitions.specs.Answer.{Refusal, refusal}
-use Rattle.definitions.specs.Model.{kind}
+use Rattle.definitions.specs.Model.{kindOfName}
 use Rattle.definitions.specs.Image.{nameCount, boxesOf, kindsOf, lineBlocks, sitesBlock, linesOf, boxOfImage, modelOf}
 use Rattle.definitions.specs.ReadModel.{blockFault, clearFrom, headCounts, headFault, sitesFault, linesFault, boxFault, leftOverFault, lengthFault, blocksFault, readModel}
 use Rattle.definitions.proofs.Bounded.{tests, below-iff, right-none, fault-none, not-false, true-of, false-of}
@@ -30,9 +30,9 @@ use Rattle.definitions.proofs.Image.{model-count, model-box, model-kind
 -- block k is there, its check is right, and its heading is what the order asks for
 pub record Headed (image : List ℕ) (k asked b : ℕ) : Type 0 where
   pub there : 512 * (k + 1) ≤ length image
-  pub checked : checkOf (blockOf image k) ≡ checkHeld (blockOf image k)
+  pub checked : checkOf (blockOf image k) ≡ storedCheck (blockOf image k)
   pub number : numberOf (blockOf image k) ≡ k
-  pub kind : kindOf (blockOf image k) ≡ asked
+  pub kind : kindOfBlock (blockOf image k) ≡ asked
   pub box : boxOf (blockOf image k) ≡ b
   pub spare : spareOf (blockOf image k) ≡ 0
 
@@ -133,7 +133,7 @@ box-iff image b = (
 pub left-iff : (image : List ℕ) (k : ℕ) → (leftOverFault image k ≡ none) ↔ (length image ≤ 512 * k)
 unfolding leftOverFault
 left-iff image k =
-    let p = go (512 * k below length image) (faultIf (checkOf (blockOf image k) isnt checkHeld (blockOf image k)) (refusal 2 k 0)) in (
+    let p = go (512 * k below length image) (someIf (checkOf (blockOf image k) isnt storedCheck (blockOf image k)) (refusal 2 k 0)) in (
       λ e. let f : 512 * k < length image → ⊥ = λ h. p .0 e (below-iff (512 * k) (length image) .1 h) in omega arith,
       λ h. p .1 (λ t. absurd (omega (arith, below-iff (512 * k) (length image) .0 t))),
     )
@@ -269,14 +269,14 @@ module _ (image : List ℕ) (f : Blocks image) where
     mostLines = rw (box-lines image b) (lines-most b h);
   }
 
-  pub kinds-fit : (n : ℕ) → kind (kindsOf image) n ≤ 3
+  pub kinds-fit : (n : ℕ) → kindOfName (kindsOf image) n ≤ 3
   kinds-fit n = pick (decLt n (nameCount image))
     where
-      pick : Dec (n < nameCount image) → kind (kindsOf image) n ≤ 3
+      pick : Dec (n < nameCount image) → kindOfName (kindsOf image) n ≤ 3
       pick (yes h) = rw (model-kind image n h) (f .head .kinds n h)
       pick (no h) = omega (arith, kind-past image n (omega arith))
 
--- ---- an image that is not refused holds a valid model
+-- ---- the model of an image that is not refused is valid
 
 pub valid-image : (image : List ℕ) → readModel image ≡ none → Valid (modelOf image)
 valid-image image e =
@@ -362,7 +362,7 @@ byte-past : (s : List ℕ) (at : ℕ) → length s ≤ at → byteAt s at ≡ 0
 unfolding byteAt
 byte-past s at h = List·getD-eq-default s 0 h
 
--- a block that the image does not hold counts nothing, where the image is whole blocks
+-- a block that the image lacks counts nothing, where the image is whole blocks
 pub count-missing : (image : List ℕ) (k : ℕ) → length image % 512 ≡ 0 → (512 * (k + 1) ≤ length image → ⊥) → 0 ≡ countOf (blockOf image k)
 unfolding countOf
 count-missing image k e f =
@@ -370,7 +370,7 @@ count-missing image k e f =
     λ i h. byteAt-block image k i h ∙ byte-past image (512 * k + i) (omega arith) in
     omega (arith, past 4 (lit< tt), past 5 (lit< tt))
 
--- a box's lines stand in blocks that the image holds; its sites too
+-- a box's lines stand in blocks that the image has; its sites too
 module _ (image : List ℕ) (f : Blocks image) (b : ℕ) (h : b < boxesOf image) where
   pub lines-there : (i : ℕ) → i < linesOf image b → 512 * (sitesBlock image b + 1 + i / 31 + 1) ≤ length image
   unfolding linesOf

@@ -8,12 +8,12 @@ use mathlib.Core.Option.{Option, none, some}
 use Prim.Native.Nat.{ℕ, _+_, _*_, _<_}
 use lib.Dec.{T}
 use lib.ListN.{length}
-use Rattle.definitions.specs.Bounded.{_and_, _is_, _isnt_, _below_, faultIf, orElse, firstBelow}
-use Rattle.definitions.specs.Words.{blockOf, numberOf, kindOf, boxOf, spareOf}
-use Rattle.definitions.specs.Check.{checkOf, checkHeld}
+use Rattle.definitions.specs.Bounded.{_is_, _isnt_, _below_, someIf, orElse, firstBelow}
+use Rattle.definitions.specs.Words.{blockOf}
+use Rattle.definitions.specs.Check.{checkOf, storedCheck}
 use Rattle.definitions.specs.Answer.{Refusal, refusal}
 use Rattle.definitions.specs.Model.{Box, Model, siteCount, lineCount, lineAt, boxAt, boxCount}
-use Rattle.definitions.specs.ReadModel.{blockFault, siteFits, lineFits, treeFits, reachFits, firstMisfit, modelFault}
+use Rattle.definitions.specs.ReadModel.{headingFits, blockFault, siteFits, lineFits, treeFits, reachFits, firstMisfit, modelFault}
 use Rattle.definitions.proofs.Bounded.{first-found, fault-none, fault-some, decide, is-iff, isnt-iff}
 
 -- the refusal that a search over boxes and records gives stands at a record that does not fit: its box first, then the record
@@ -21,7 +21,7 @@ pub misfit-stands : (number : ℕ) (m : Model) (count : Box → ℕ) (fits : ℕ
     → (b : ℕ) × (b < boxCount m) × ((i : ℕ) × (i < count (boxAt m b)) × T (not (fits b i)) × (r ≡ refusal number b i))
 unfolding firstMisfit
 misfit-stands number m count fits r e =
-    let inner : ℕ → ℕ → Option Refusal = λ b i. faultIf (not (fits b i)) (refusal number b i) in
+    let inner : ℕ → ℕ → Option Refusal = λ b i. someIf (not (fits b i)) (refusal number b i) in
     let x = first-found (λ b. firstBelow (count (boxAt m b)) (inner b)) (boxCount m) r e in
     let y = first-found (inner (x .0)) (count (boxAt m (x .0))) r (x .2) in
     let z = fault-some (not (fits (x .0) (y .0))) (refusal number (x .0) (y .0)) r (y .2) in
@@ -46,16 +46,13 @@ pub data Refused (m : Model) : Refusal → Type 0 where
       → b < boxCount m → i < lineCount (boxAt m b) → T (not (reachFits m b i)) → Refused m (refusal 9 b i)
 
 -- a refusal of block k: 1 missing, 2 check, 3 heading, 4 count, 5 stray, each only where the ones before it pass
-abbrev pub headed : List ℕ → ℕ → ℕ → ℕ → Bool
-headed block k asked box = numberOf block is k and kindOf block is asked and boxOf block is box and spareOf block is 0
-
 module _ (image : List ℕ) (k asked box : ℕ) (counts clear : List ℕ → Bool) where
   pub data BlockRefused : Refusal → Type 0 where
     missing : T (length image below 512 * (k + 1)) → BlockRefused (refusal 1 k 0)
-    check : T (checkOf (blockOf image k) isnt checkHeld (blockOf image k)) → BlockRefused (refusal 2 k 0)
-    heading : checkOf (blockOf image k) ≡ checkHeld (blockOf image k) → T (not (headed (blockOf image k) k asked box)) → BlockRefused (refusal 3 k 0)
-    count : T (headed (blockOf image k) k asked box) → T (not (counts (blockOf image k))) → BlockRefused (refusal 4 k 0)
-    stray : T (headed (blockOf image k) k asked box) → T (counts (blockOf image k)) → T (not (clear (blockOf image k))) → BlockRefused (refusal 5 k 0)
+    check : T (checkOf (blockOf image k) isnt storedCheck (blockOf image k)) → BlockRefused (refusal 2 k 0)
+    heading : checkOf (blockOf image k) ≡ storedCheck (blockOf image k) → T (not (headingFits k asked box (blockOf image k))) → BlockRefused (refusal 3 k 0)
+    count : T (headingFits k asked box (blockOf image k)) → T (not (counts (blockOf image k))) → BlockRefused (refusal 4 k 0)
+    stray : T (headingFits k asked box (blockOf image k)) → T (counts (blockOf image k)) → T (not (clear (blockOf image k))) → BlockRefused (refusal 5 k 0)
 
 -- the first of two faults, by which of them it is
 else-case : {A : Type 0} (P : Type 0) (a b : Option A) (r : A) → orElse a b ≡ some r → (a ≡ some r → P) → (a ≡ none → b ≡ some r → P) → P
@@ -86,7 +83,7 @@ model-refused m r e =
     nine = firstMisfit 9 m lineCount (reachFits m)
 
 -- a test that is no fault
-passed : {A : Type 0} (b : Bool) (a : A) → faultIf (not b) a ≡ none → T b
+passed : {A : Type 0} (b : Bool) (a : A) → someIf (not b) a ≡ none → T b
 passed true a e = tt
 passed false a e = absurd (fault-none (not false) a e tt)
 
@@ -96,18 +93,18 @@ unfolding blockFault
 block-refused image k asked box counts clear r e =
     let block = blockOf image k in
     let test1 = length image below 512 * (k + 1) in
-    let test2 = checkOf block isnt checkHeld block in
+    let test2 = checkOf block isnt storedCheck block in
     let P = BlockRefused image k asked box counts clear r in
-    else-case P (faultIf test1 (refusal 1 k 0)) _ r e (λ q. let z = fault-some test1 (refusal 1 k 0) r q in rw (← z .1) (missing (z .0))) (λ n1 e2.
-    else-case P (faultIf test2 (refusal 2 k 0)) _ r e2 (λ q. let z = fault-some test2 (refusal 2 k 0) r q in rw (← z .1) (check (z .0))) (λ n2 e3.
-    else-case P (faultIf (not (headed block k asked box)) (refusal 3 k 0)) _ r e3
-    (λ q. let z = fault-some (not (headed block k asked box)) (refusal 3 k 0) r q in
-    rw (← z .1) (heading (agree (checkOf block) (checkHeld block) (fault-none test2 (refusal 2 k 0) n2)) (z .0))) (λ n3 e4.
-    else-case P (faultIf (not (counts block)) (refusal 4 k 0)) (faultIf (not (clear block)) (refusal 5 k 0)) r e4
+    else-case P (someIf test1 (refusal 1 k 0)) _ r e (λ q. let z = fault-some test1 (refusal 1 k 0) r q in rw (← z .1) (missing (z .0))) (λ n1 e2.
+    else-case P (someIf test2 (refusal 2 k 0)) _ r e2 (λ q. let z = fault-some test2 (refusal 2 k 0) r q in rw (← z .1) (check (z .0))) (λ n2 e3.
+    else-case P (someIf (not (headingFits k asked box block)) (refusal 3 k 0)) _ r e3
+    (λ q. let z = fault-some (not (headingFits k asked box block)) (refusal 3 k 0) r q in
+    rw (← z .1) (heading (agree (checkOf block) (storedCheck block) (fault-none test2 (refusal 2 k 0) n2)) (z .0))) (λ n3 e4.
+    else-case P (someIf (not (counts block)) (refusal 4 k 0)) (someIf (not (clear block)) (refusal 5 k 0)) r e4
     (λ q. let z = fault-some (not (counts block)) (refusal 4 k 0) r q in
-    rw (← z .1) (count (passed (headed block k asked box) (refusal 3 k 0) n3) (z .0))) (λ n4 q.
+    rw (← z .1) (count (passed (headingFits k asked box block) (refusal 3 k 0) n3) (z .0))) (λ n4 q.
     let z = fault-some (not (clear block)) (refusal 5 k 0) r q in
-    rw (← z .1) (stray (passed (headed block k asked box) (refusal 3 k 0) n3) (passed (counts block) (refusal 4 k 0) n4) (z .0))))))
+    rw (← z .1) (stray (passed (headingFits k asked box block) (refusal 3 k 0) n3) (passed (counts block) (refusal 4 k 0) n4) (z .0))))))
   where
     agree : (a b : ℕ) → (T (a isnt b) → ⊥) → a ≡ b
     agree a b f = ⊎-elim (λ t. is-iff a b .0 t) (λ g. absurd (f (isnt-iff a b .1 (λ q. g (is-iff a b .1 q))))) (decide (a is b))

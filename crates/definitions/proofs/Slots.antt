@@ -1,13 +1,13 @@
 -- The laws of parts of a list of words and of slots: what is put is what is read there, and all else is as it was. Assumes nothing.
-use mathlib.Core.Path.{_≡_, ap, subst, sym, _∙_}
+use mathlib.Core.Path.{_≡_, refl, ap, ap₂, subst, sym, _∙_}
 use mathlib.Core.Logic.{_⊎_, inl, inr, _≢_}
-use mathlib.Core.List.{List, _++_}
+use mathlib.Core.List.{List, _++_, append-assoc}
 use Prim.Native.Nat.{ℕ, zero, suc, _+_, _-_, _*_, _≤_, _<_}
-use native.Mathlib.Nat.{mul-le-mul-left}
+use native.Mathlib.Nat.{le-refl, mul-le-mul-left}
 use native.Mathlib.Omega.{arith}
 use native.Mathlib.Decide.{ℕ-discrete, decLt}
 use lib.ListN.{length, take, drop, set, replicate, length-append, length-take, length-drop, length-set, length-replicate, getD-replicate, List·getD-append, List·getD-eq-default}
-use lib.Seq.{getD-take, getD-drop, getD-append-add, ext-getD, length-take-le, getD-set-other}
+use lib.Seq.{getD-take, getD-drop, getD-append-add, ext-getD, length-take-le, getD-set-same, getD-set-other, take-at, drop-at}
 use Rattle.definitions.specs.Bounded.{flat}
 use Rattle.definitions.specs.Slots.{word, zeros, part, put, slot, putSlot, dropSlot}
 
@@ -22,6 +22,29 @@ word-zeros n i = pick (decLt i n)
     pick : Dec (i < n) → word (replicate n 0) i ≡ 0
     pick (yes h) = getD-replicate n i 0 0 h
     pick (no h) = List·getD-eq-default (replicate n 0) 0 (omega (arith, length-replicate {A = ℕ} n 0))
+
+-- zeros behind zeros
+pub zeros-more : (m n : ℕ) → zeros m ++ zeros n ≡ zeros (m + n)
+zeros-more m n =
+    ext-getD 0 (zeros m ++ zeros n) (zeros (m + n))
+    (length-append (zeros m) (zeros n) ∙ omega (arith, length-zeros m, length-zeros n, length-zeros (m + n)))
+    (λ i h. pick i (decLt i m) ∙ sym (word-zeros (m + n) i))
+  where
+    pick : (i : ℕ) → Dec (i < m) → word (zeros m ++ zeros n) i ≡ 0
+    pick i (yes l) = List·getD-append (zeros m) (zeros n) 0 i (omega (arith, length-zeros m)) ∙ word-zeros m i
+    pick i (no l) =
+        ap (word (zeros m ++ zeros n)) (let q : i ≡ length (zeros m) + (i - m) = omega (arith, length-zeros m) in q)
+        ∙ getD-append-add (zeros m) (zeros n) (i - m) 0 ∙ word-zeros n (i - m)
+
+pub take-zeros : (m n : ℕ) → m ≤ n → take m (zeros n) ≡ zeros m
+take-zeros m n h =
+    let e : n ≡ m + (n - m) = omega arith in
+    ap (take m) (ap zeros e ∙ sym (zeros-more m (n - m))) ∙ take-at (zeros m) (zeros (n - m)) m (length-zeros m)
+
+pub drop-zeros : (m n : ℕ) → m ≤ n → drop m (zeros n) ≡ zeros (n - m)
+drop-zeros m n h =
+    let e : n ≡ m + (n - m) = omega arith in
+    ap (drop m) (ap zeros e ∙ sym (zeros-more m (n - m))) ∙ drop-at (zeros m) (zeros (n - m)) m (length-zeros m)
 
 -- ---- parts
 
@@ -79,6 +102,119 @@ module _ (r : List ℕ) (off : ℕ) (x : List ℕ) (h : off + length x ≤ lengt
       word-right (take off r ++ x) (drop (off + length x) r) k (off + length x) front2 l
       ∙ getD-drop (off + length x) r (k - (off + length x)) 0
       ∙ ap (λ (j : ℕ). word r j) (let q : off + length x + (k - (off + length x)) ≡ k = omega arith in q)
+
+  pub word-put-out : (k : ℕ) → (k < off) ⊎ (off + length x ≤ k) → word (put r off x) k ≡ word r k
+  word-put-out k (inl l) = word-put-before k l
+  word-put-out k (inr l) = word-put-after k l
+
+-- a list with the words of x from off on, and those of r elsewhere
+pub put-is : (r s : List ℕ) (off : ℕ) (x : List ℕ) → off + length x ≤ length r → length s ≡ length r
+    → ((j : ℕ) → j < length x → word s (off + j) ≡ word x j) → ((k : ℕ) → (k < off) ⊎ (off + length x ≤ k) → word s k ≡ word r k) → s ≡ put r off x
+put-is r s off x room long inside outside =
+    ext-getD 0 s (put r off x) (long ∙ sym (length-put r off x room)) (λ k _. at k (decLt k off) (decLt k (off + length x)))
+  where
+    at : (k : ℕ) → Dec (k < off) → Dec (k < off + length x) → word s k ≡ word (put r off x) k
+    at k (yes a) b = outside k (inl a) ∙ sym (word-put-before r off x room k a)
+    at k (no a) (no b) = outside k (inr (omega arith)) ∙ sym (word-put-after r off x room k (omega arith))
+    at k (no a) (yes b) =
+        ap (word s) (let z : k ≡ off + (k - off) = omega arith in z)
+        ∙ inside (k - off) (omega arith) ∙ sym (word-put-at r off x room k (omega arith) b)
+
+-- a part put where it stands; a word stored among those that are put
+pub put-part : (r : List ℕ) (off w : ℕ) → off + w ≤ length r → put r off (part r off w) ≡ r
+put-part r off w room =
+    let size = length-part r off w room in
+    sym (put-is r r off (part r off w) (omega arith) refl (λ j h. sym (word-part r off w j (omega arith))) (λ k o. refl))
+
+pub set-put : (r : List ℕ) (off : ℕ) (x : List ℕ) (j v : ℕ) → off + length x ≤ length r → j < length x
+    → set (put r off x) (off + j) v ≡ put r off (set x j v)
+set-put r off x j v room h =
+    put-is r (set (put r off x) (off + j) v) off (set x j v) room2 (length-set (put r off x) (off + j) v ∙ length-put r off x room)
+    (λ q l. pick q (subst (λ (n : ℕ). q < n) size l) (ℕ-discrete j q))
+    (λ q o. getD-set-other (put r off x) (off + j) q v 0 (apart q o) ∙ word-put-out r off x room q (same q o))
+  where
+    size : length (set x j v) ≡ length x
+    size = length-set x j v
+
+    room2 : off + length (set x j v) ≤ length r
+    room2 = omega (arith, size)
+
+    apart : (q : ℕ) → (q < off) ⊎ (off + length (set x j v) ≤ q) → q ≢ off + j
+    apart q (inl a) = omega arith
+    apart q (inr a) = omega (arith, size)
+
+    same : (q : ℕ) → (q < off) ⊎ (off + length (set x j v) ≤ q) → (q < off) ⊎ (off + length x ≤ q)
+    same q (inl a) = inl a
+    same q (inr a) = inr (omega (arith, size))
+
+    pick : (q : ℕ) → q < length x → Dec (j ≡ q) → word (set (put r off x) (off + j) v) (off + q) ≡ word (set x j v) q
+    pick q l (yes z) =
+        rw (← z) (getD-set-same (put r off x) (off + j) v 0 (omega (arith, length-put r off x room)) ∙ sym (getD-set-same x j v 0 h))
+    pick q l (no z) =
+        getD-set-other (put r off x) (off + j) (off + q) v 0 (omega arith) ∙ word-put-in r off x room q l ∙ sym (getD-set-other x j q v 0 (omega arith))
+
+-- what is put last stands; what is put apart, or stored apart, may be put in either order
+pub put-put : (r : List ℕ) (off : ℕ) (x y : List ℕ) → length x ≡ length y → off + length y ≤ length r → put (put r off x) off y ≡ put r off y
+put-put r off x y e room =
+    let first : off + length x ≤ length r = omega arith in
+    let long = length-put r off x first in
+    let second : off + length y ≤ length (put r off x) = omega arith in
+    put-is r (put (put r off x) off y) off y room (length-put (put r off x) off y second ∙ long)
+    (λ j h. word-put-in (put r off x) off y second j h)
+    (λ k o. word-put-out (put r off x) off y second k o ∙ word-put-out r off x first k (same k o))
+  where
+    same : (k : ℕ) → (k < off) ⊎ (off + length y ≤ k) → (k < off) ⊎ (off + length x ≤ k)
+    same k (inl a) = inl a
+    same k (inr a) = inr (omega arith)
+
+pub put-set : (r : List ℕ) (off : ℕ) (x : List ℕ) (k v : ℕ) → off + length x ≤ length r → (k < off) ⊎ (off + length x ≤ k)
+    → put (set r k v) off x ≡ set (put r off x) k v
+put-set r off x k v room out =
+    let long = length-set r k v in
+    let room2 : off + length x ≤ length (set r k v) = omega arith in
+    sym (put-is (set r k v) (set (put r off x) k v) off x room2 (length-set (put r off x) k v ∙ length-put r off x room ∙ sym long)
+    (λ j h. getD-set-other (put r off x) k (off + j) v 0 (differ j h out) ∙ word-put-in r off x room j h) (λ q o. pick q o (ℕ-discrete k q)))
+  where
+    differ : (j : ℕ) → j < length x → (k < off) ⊎ (off + length x ≤ k) → off + j ≢ k
+    differ j h (inl a) = omega arith
+    differ j h (inr a) = omega arith
+
+    pick : (q : ℕ) → (q < off) ⊎ (off + length x ≤ q) → Dec (k ≡ q) → word (set (put r off x) k v) q ≡ word (set r k v) q
+    pick q o (no z) =
+        getD-set-other (put r off x) k q v 0 (omega arith) ∙ word-put-out r off x room q o ∙ sym (getD-set-other r k q v 0 (omega arith))
+    pick q o (yes z) = rw (← z) (stored (decLt k (length r)))
+      where
+        stored : Dec (k < length r) → word (set (put r off x) k v) k ≡ word (set r k v) k
+        stored (yes l) =
+            getD-set-same (put r off x) k v 0 (omega (arith, length-put r off x room)) ∙ sym (getD-set-same r k v 0 l)
+        stored (no l) =
+            List·getD-eq-default (set (put r off x) k v) 0 (omega (arith, length-set (put r off x) k v, length-put r off x room))
+            ∙ sym (List·getD-eq-default (set r k v) 0 (omega (arith, length-set r k v)))
+
+pub put-apart : (r : List ℕ) (a : ℕ) (x : List ℕ) (b : ℕ) (y : List ℕ) → a + length x ≤ length r → b + length y ≤ length r
+    → (a + length x ≤ b) ⊎ (b + length y ≤ a) → put (put r a x) b y ≡ put (put r b y) a x
+put-apart r a x b y ra rb o =
+    let la = length-put r a x ra in
+    let lb = length-put r b y rb in
+    let rab : b + length y ≤ length (put r a x) = omega arith in
+    let rba : a + length x ≤ length (put r b y) = omega arith in
+    put-is (put r b y) (put (put r a x) b y) a x rba (length-put (put r a x) b y rab ∙ la ∙ sym lb)
+    (λ j h. word-put-out (put r a x) b y rab (a + j) (inside j h o) ∙ word-put-in r a x ra j h)
+    (λ k out. pick k out (decLt k b) (decLt k (b + length y)))
+  where
+    inside : (j : ℕ) → j < length x → (a + length x ≤ b) ⊎ (b + length y ≤ a) → (a + j < b) ⊎ (b + length y ≤ a + j)
+    inside j h (inl z) = inl (omega arith)
+    inside j h (inr z) = inr (omega arith)
+
+    rab : b + length y ≤ length (put r a x)
+    rab = omega (arith, length-put r a x ra)
+
+    pick : (k : ℕ) → (k < a) ⊎ (a + length x ≤ k) → Dec (k < b) → Dec (k < b + length y) → word (put (put r a x) b y) k ≡ word (put r b y) k
+    pick k out (yes z) w =
+        word-put-before (put r a x) b y rab k z ∙ word-put-out r a x ra k out ∙ sym (word-put-before r b y rb k z)
+    pick k out (no z) (no w) =
+        word-put-after (put r a x) b y rab k (omega arith) ∙ word-put-out r a x ra k out ∙ sym (word-put-after r b y rb k (omega arith))
+    pick k out (no z) (yes w) = word-put-at (put r a x) b y rab k (omega arith) w ∙ sym (word-put-at r b y rb k (omega arith) w)
 
 -- two parts are the same where their words are
 pub part-ext : (r s : List ℕ) (a b w : ℕ) → a + w ≤ length r → b + w ≤ length s → ((i : ℕ) → i < w → word r (a + i) ≡ word s (b + i)) → part r a w ≡ part s b w
@@ -202,30 +338,46 @@ module _ (base w cap : ℕ) (r : List ℕ) (fits : base + w * cap ≤ length r) 
     unfolding slot dropSlot rest region
     slot-drop-below u q = part-put-other r (base + w * i) rest (base + w * u) w room (omega (arith, one, mul-le-mul-left w q)) (inl (omega (arith, mul-le-mul-left w q)))
 
+    -- a word before slot i is as it was
+    pub word-drop-below : (k : ℕ) → k < base + w * i → word (dropSlot base w cap r i) k ≡ word r k
+    unfolding dropSlot rest region
+    word-drop-below k q = word-put-before r (base + w * i) rest room k q
+
+    -- a word from slot i on: the one a slot on, and zero in the last slot
+    pub word-drop-above : (k : ℕ) → base + w * i ≤ k → k + w < base + w * cap → word (dropSlot base w cap r i) k ≡ word r (k + w)
+    unfolding dropSlot rest region
+    word-drop-above k q m =
+        word-put-at r (base + w * i) rest room k q (omega (arith, length-rest))
+        ∙ word-left (drop (w * (i + 1)) region) (zeros w) (k - (base + w * i)) (simp length-drop (omega (arith, length-region, one)))
+        ∙ getD-drop (w * (i + 1)) region (k - (base + w * i)) 0
+        ∙ word-part r base (w * cap) (w * (i + 1) + (k - (base + w * i))) (omega arith)
+        ∙ ap (word r) (let z : base + (w * (i + 1) + (k - (base + w * i))) ≡ k + w = omega arith in z)
+
+    pub word-drop-last : (k : ℕ) → base + w * i ≤ k → base + w * cap ≤ k + w → k < base + w * cap → word (dropSlot base w cap r i) k ≡ 0
+    unfolding dropSlot rest region
+    word-drop-last k q m l =
+        word-put-at r (base + w * i) rest room k q (omega (arith, length-rest))
+        ∙ word-right (drop (w * (i + 1)) region) (zeros w) (k - (base + w * i)) (w * cap - w * (i + 1))
+        (simp length-drop (omega (arith, length-region))) (omega (arith, one))
+        ∙ word-zeros w _
+
     pub slot-drop-above : (u : ℕ) → i ≤ u → u + 1 < cap → slot base w (dropSlot base w cap r i) u ≡ slot base w r (u + 1)
-    unfolding slot dropSlot rest region
+    unfolding slot
     slot-drop-above u q m =
         let a : w * i ≤ w * u = mul-le-mul-left w q in
         let b : w * (u + 2) ≤ w * cap = mul-le-mul-left w (let z : u + 2 ≤ cap = omega arith in z) in
-        part-ext (put r (base + w * i) rest) r (base + w * u) (base + w * (u + 1)) w (omega (arith, length-dropSlot)) (omega arith)
+        part-ext (dropSlot base w cap r i) r (base + w * u) (base + w * (u + 1)) w (omega (arith, length-dropSlot)) (omega arith)
         (λ j l.
-        word-put-at r (base + w * i) rest room (base + w * u + j) (omega arith) (omega (arith, length-rest))
-        ∙ word-left (drop (w * (i + 1)) region) (zeros w) (base + w * u + j - (base + w * i)) (simp length-drop (omega (arith, length-region)))
-        ∙ getD-drop (w * (i + 1)) region (base + w * u + j - (base + w * i)) 0
-        ∙ ap (word region) (let z : w * (i + 1) + (base + w * u + j - (base + w * i)) ≡ w * (u + 1) + j = omega arith in z)
-        ∙ word-part r base (w * cap) (w * (u + 1) + j) (omega arith)
-        ∙ ap (word r) (let z : base + (w * (u + 1) + j) ≡ base + w * (u + 1) + j = omega arith in z))
+        word-drop-above (base + w * u + j) (omega arith) (omega arith)
+        ∙ ap (word r) (let z : base + w * u + j + w ≡ base + w * (u + 1) + j = omega arith in z))
 
     pub slot-drop-last : (u : ℕ) → u + 1 ≡ cap → slot base w (dropSlot base w cap r i) u ≡ zeros w
-    unfolding slot dropSlot rest region
+    unfolding slot
     slot-drop-last u m =
         let a : w * i ≤ w * u = mul-le-mul-left w (omega arith) in
         let b : w * (u + 1) ≡ w * cap = ap (λ (c : ℕ). w * c) m in
-        part-is (put r (base + w * i) rest) (base + w * u) w (zeros w) (omega (arith, length-dropSlot)) (length-zeros w)
-        (λ j l.
-        word-put-at r (base + w * i) rest room (base + w * u + j) (omega arith) (omega (arith, length-rest))
-        ∙ word-right (drop (w * (i + 1)) region) (zeros w) (base + w * u + j - (base + w * i)) (w * u - w * i) (simp length-drop (omega (arith, length-region))) (omega arith)
-        ∙ word-zeros w _ ∙ sym (word-zeros w j))
+        part-is (dropSlot base w cap r i) (base + w * u) w (zeros w) (omega (arith, length-dropSlot)) (length-zeros w)
+        (λ j l. word-drop-last (base + w * u + j) (omega arith) (omega arith) (omega arith) ∙ sym (word-zeros w j))
 
 -- ---- so many lists of w words, one behind the other
 
@@ -268,3 +420,43 @@ module _ (w : ℕ) (f : ℕ → List ℕ) (each : (i : ℕ) → length (f i) ≡
       ∙ word-right a (flat n f) (base + w * i + j) base e (omega arith)
       ∙ ap (word (flat n f)) (let z : base + w * i + j - base ≡ w * i + j = omega arith in z)
       ∙ word-flat n i j h l)
+
+pub flat-cong : (n : ℕ) (f g : ℕ → List ℕ) → ((j : ℕ) → j < n → f j ≡ g j) → flat n f ≡ flat n g
+unfolding flat
+flat-cong zero f g e = refl
+flat-cong (suc n) f g e = ap₂ _++_ (flat-cong n f g (λ j h. e j (omega arith))) (e n (le-refl (suc n)))
+
+pub flat-zeros : (w n : ℕ) → flat n (λ _. zeros w) ≡ zeros (w * n)
+unfolding flat zeros
+flat-zeros w zero = ap zeros (let z : 0 ≡ w * 0 = omega arith in z)
+flat-zeros w (suc n) =
+    ap (λ (x : List ℕ). x ++ zeros w) (flat-zeros w n) ∙ zeros-more (w * n) w ∙ ap zeros (let z : w * n + w ≡ w * suc n = omega arith in z)
+
+-- other words of the same number put between two lists
+pub put-between : (p q x y : List ℕ) (off : ℕ) → length p ≡ off → length x ≡ length y → put (p ++ x ++ q) off y ≡ p ++ y ++ q
+unfolding put
+put-between p q x y off e k =
+    ap₂ (λ (a b : List ℕ). a ++ y ++ b) (ap (take off) (append-assoc p x q) ∙ take-at p (x ++ q) off e)
+    (drop-at (p ++ x) q (off + length y) (length-append p x ∙ omega arith))
+
+-- so many lists of w words, between two others: list i is put anew
+module _ (base w : ℕ) (f g : ℕ → List ℕ) (a : List ℕ) (e : length a ≡ base) (each : (j : ℕ) → length (f j) ≡ w) (i : ℕ)
+    (here : length (g i) ≡ w) (same : (j : ℕ) → j ≢ i → f j ≡ g j) where
+  pub put-flat : (n : ℕ) → i < n → (b : List ℕ) → putSlot base w (a ++ flat n f ++ b) i (g i) ≡ a ++ flat n g ++ b
+  unfolding flat putSlot
+  put-flat zero h b = absurd (omega arith)
+  put-flat (suc n) h b = pick (ℕ-discrete i n) (put-flat n)
+    where
+      pick : Dec (i ≡ n) → (i < n → (b : List ℕ) → put (a ++ flat n f ++ b) (base + w * i) (g i) ≡ a ++ flat n g ++ b)
+          → put (a ++ (flat n f ++ f n) ++ b) (base + w * i) (g i) ≡ a ++ (flat n g ++ g n) ++ b
+      pick (yes q) rest =
+          let size : length (a ++ flat n f) ≡ base + w * i =
+          length-append a (flat n f) ∙ omega (arith, length-flat w f each n, ap (λ (k : ℕ). w * k) q) in
+          ap (λ (x : List ℕ). put (x ++ b) (base + w * i) (g i)) (sym (append-assoc a (flat n f) (f n)))
+          ∙ put-between (a ++ flat n f) b (f n) (g i) (base + w * i) size (each n ∙ sym here)
+          ∙ ap₂ (λ (x y : List ℕ). a ++ x ++ y ++ b) (flat-cong n f g (λ j l. same j (omega arith))) (ap g q)
+          ∙ ap (λ (x : List ℕ). x ++ b) (append-assoc a (flat n g) (g n))
+      pick (no q) rest =
+          let out : (x y : List ℕ) → a ++ (x ++ y) ++ b ≡ a ++ x ++ (y ++ b) = λ x y. simp append-assoc in
+          ap (λ (x : List ℕ). put x (base + w * i) (g i)) (out (flat n f) (f n)) ∙ rest (omega arith) (f n ++ b)
+          ∙ sym (out (flat n g) (f n)) ∙ ap (λ (x : List ℕ). a ++ (flat n g ++ x) ++ b) (same n (omega arith))

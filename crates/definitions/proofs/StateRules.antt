@@ -11,9 +11,9 @@ use lib.ListN.{length}
 use lib.Seq.{ext-getD}
 use Rattle.definitions.specs.Bounded.{_and_, _is_, _below_, _upto_}
 use Rattle.definitions.specs.Slots.{word, zeros}
-use Rattle.definitions.specs.Model.{Box, Model, boxAt, lineCount, boxCount, listed, kind, boundAbove, owner}
+use Rattle.definitions.specs.Model.{Box, Model, boxAt, lineCount, boxCount, listed, kindOfName, boundAbove, owner}
 use Rattle.definitions.specs.Record.{heldNumber, heldStamp, stampLimit, stamp, threads, sites, site, thread, subject, flag, typeWord, line, binding, stateLength, recordOf, lastStamps}
-use Rattle.definitions.specs.StateRules.{clear, slotsFit, stampFits, heldFits, typeHeld, siteHeld, threadHeld, recordFits, stateFits}
+use Rattle.definitions.specs.StateRules.{clear, slotsFit, stampFits, heldFits, typeWordsFit, siteWordsFit, threadWordsFit, recordFits, stateFits}
 use Rattle.definitions.proofs.Bounded.{choice-iff, tests, and-iff, or-iff, is-iff, below-iff, upto-iff}
 use Rattle.definitions.proofs.Slots.{length-zeros, word-zeros}
 use Rattle.definitions.proofs.Arrays.{Array, Differ}
@@ -56,13 +56,17 @@ module _ (w : ℕ) (ok : List ℕ → Bool) (n : ℕ) (f : ℕ → List ℕ) whe
 
 -- ---- held names, sites and threads
 
+pub number-low : (v : ℕ) → heldNumber v < 64
+unfolding heldNumber
+number-low v = omega arith
+
 module _ (m : Model) (last : ℕ → ℕ) where
   pub record HeldFits (v : ℕ) : Type 0 where
     pub given : v ≢ 0
     pub listed : heldNumber v < length (m .kinds)
-    pub notReceived : kind (m .kinds) (heldNumber v) ≢ 2
-    pub free : kind (m .kinds) (heldNumber v) ≡ 0 → heldStamp v ≡ 0
-    pub made : kind (m .kinds) (heldNumber v) ≢ 0
+    pub notReceived : kindOfName (m .kinds) (heldNumber v) ≢ 2
+    pub free : kindOfName (m .kinds) (heldNumber v) ≡ 0 → heldStamp v ≡ 0
+    pub made : kindOfName (m .kinds) (heldNumber v) ≢ 0
         → (b : ℕ) × (owner m (heldNumber v) ≡ some b) × (1 ≤ heldStamp v) × (heldStamp v ≤ last b)
 
   pub stamp-iff : (n s : ℕ) → T (stampFits m last n s) ↔ ((b : ℕ) × (owner m n ≡ some b) × (1 ≤ s) × (s ≤ last b))
@@ -88,7 +92,7 @@ module _ (m : Model) (last : ℕ → ℕ) where
   unfolding heldFits
   held-iff v =
       let n = heldNumber v in
-      let k = kind (m .kinds) n in (
+      let k = kindOfName (m .kinds) n in (
         λ t.
             let u = simp tests at t in
             let c = choice-iff (k is 0) (heldStamp v is 0) (stampFits m last n (heldStamp v)) .0 (u .1) in
@@ -112,17 +116,17 @@ module _ (m : Model) (last : ℕ → ℕ) where
   pub record SiteFits (x : List ℕ) : Type 0 where
     pub size : length x ≡ 10
     pub subjectFits : HeldFits (subject x)
-    pub subjectKind : (kind (m .kinds) (heldNumber (subject x)) ≡ 0) ⊎ (kind (m .kinds) (heldNumber (subject x)) ≡ 3)
+    pub subjectKind : (kindOfName (m .kinds) (heldNumber (subject x)) ≡ 0) ⊎ (kindOfName (m .kinds) (heldNumber (subject x)) ≡ 3)
     pub flagFits : flag x ≤ 1
     pub typeSome : typeWord x 0 ≢ 0
     pub typeFits : (i : ℕ) → i < 8 → typeWord x i ≢ 0 → HeldFits (typeWord x i)
     pub typeBefore : (i : ℕ) → i < 7 → typeWord x (i + 1) ≢ 0 → typeWord x i ≢ 0
     pub typeAscends : (i : ℕ) → i < 7 → typeWord x (i + 1) ≢ 0 → typeWord x i < typeWord x (i + 1)
 
-  pub site-iff : (x : List ℕ) → T (siteHeld m last x) ↔ SiteFits x
-  unfolding siteHeld typeHeld
+  pub site-iff : (x : List ℕ) → T (siteWordsFit m last x) ↔ SiteFits x
+  unfolding siteWordsFit typeWordsFit
   site-iff x =
-      let k = kind (m .kinds) (heldNumber (subject x)) in (
+      let k = kindOfName (m .kinds) (heldNumber (subject x)) in (
         λ t.
             let u = simp tests at t in
             record {
@@ -154,8 +158,8 @@ module _ (m : Model) (last : ℕ → ℕ) where
     pub bound : (n : ℕ) → n < 60 → T (boundAbove x (line y) n) → HeldFits (binding y n)
     pub unbound : (n : ℕ) → n < 60 → (T (boundAbove x (line y) n) → ⊥) → binding y n ≡ 0
 
-  pub thread-iff : (x : Box) (y : List ℕ) → T (threadHeld m last x y) ↔ ThreadFits x y
-  unfolding threadHeld
+  pub thread-iff : (x : Box) (y : List ℕ) → T (threadWordsFit m last x y) ↔ ThreadFits x y
+  unfolding threadWordsFit
   thread-iff x y = (
     λ t.
         let u = simp tests at t in
@@ -181,8 +185,8 @@ module _ (m : Model) (last : ℕ → ℕ) where
   pub record RecordFits (x : Box) (r : List ℕ) : Type 0 where
     pub size : length r ≡ 1139
     pub stampFits : stamp r ≤ stampLimit
-    pub threadsFit : Array 61 16 (threadHeld m last x) (threads r) (thread r)
-    pub sitesFit : Array 10 16 (siteHeld m last) (sites r) (site r)
+    pub threadsFit : Array 61 16 (threadWordsFit m last x) (threads r) (thread r)
+    pub sitesFit : Array 10 16 (siteWordsFit m last) (sites r) (site r)
     pub differ : Differ (sites r) (site r)
 
   pub record-iff : (x : Box) (r : List ℕ) → T (recordFits m last x r) ↔ RecordFits x r
@@ -190,19 +194,19 @@ module _ (m : Model) (last : ℕ → ℕ) where
   record-iff x r = (
     λ t.
         let u = simp tests at t in
-        let k = array-of 10 (siteHeld m last) (sites r) (site r) (u .0 .1) in
+        let k = array-of 10 (siteWordsFit m last) (sites r) (site r) (u .0 .1) in
         record {
           size = u .0 .0 .0 .0;
           stampFits = u .0 .0 .0 .1;
-          threadsFit = array-of 61 (threadHeld m last x) (threads r) (thread r) (u .0 .0 .1);
+          threadsFit = array-of 61 (threadWordsFit m last x) (threads r) (thread r) (u .0 .0 .1);
           sitesFit = k;
           differ = λ s q a b. u .1 s (omega (arith, k .most)) q a b;
         },
     λ k.
         simp tests (
           (
-            ((k .size, k .stampFits), of-array 61 (threadHeld m last x) (threads r) (thread r) (k .threadsFit)),
-            of-array 10 (siteHeld m last) (sites r) (site r) (k .sitesFit),
+            ((k .size, k .stampFits), of-array 61 (threadWordsFit m last x) (threads r) (thread r) (k .threadsFit)),
+            of-array 10 (siteWordsFit m last) (sites r) (site r) (k .sitesFit),
           ),
           λ s _ q a b. k .differ s q a b,
         ),

@@ -9,7 +9,7 @@ use lib.Dec.{T}
 use lib.ListN.{length}
 use Rattle.definitions.specs.Bounded.{_or_, _is_, anyBelow}
 use Rattle.definitions.specs.Sets.{has, size}
-use Rattle.definitions.specs.Model.{Site, Line, Box, Model, siteAt, lineAt, boxAt, siteCount, lineCount, boxCount, kind, nil, parallel, restriction, output, input, expose, hide, unhide, binds, bindsIn, boundAbove, owner}
+use Rattle.definitions.specs.Model.{Site, Line, Box, Model, siteAt, lineAt, boxAt, siteCount, lineCount, boxCount, kindOfName, nil, parallel, restriction, output, input, expose, hide, unhide, binds, bindsIn, boundAbove, owner}
 use Rattle.definitions.specs.ReadModel.{typeFits, usedBefore, siteFits, usesName1, usesName2, usesChild1, lineFits, treeFits, uses, boundBefore, reachFits, firstMisfit, modelFault}
 use Rattle.definitions.proofs.Bounded.{tests, and-iff, or-iff, is-iff, any-iff}
 use Rattle.definitions.proofs.Faults.{faults, not-iff, first-is, is-first}
@@ -24,11 +24,11 @@ pub record TypeSize (type : ℕ) : Type 0 where
 -- 6: site i of box b
 pub record ValidSite (m : Model) (b i : ℕ) (s : Site) : Type 0 where
   pub listed : s .subject < length (m .kinds)
-  pub free : kind (m .kinds) (s .subject) ≡ 0
+  pub free : kindOfName (m .kinds) (s .subject) ≡ 0
   pub flagFits : s .flag ≤ 1
   pub typeSize : TypeSize (s .type)
   pub typeListed : (n : ℕ) → n < 64 → T (has (s .type) n) → n < length (m .kinds)
-  pub typeFree : (n : ℕ) → n < 64 → T (has (s .type) n) → kind (m .kinds) n ≡ 0
+  pub typeFree : (n : ℕ) → n < 64 → T (has (s .type) n) → kindOfName (m .kinds) n ≡ 0
   pub lacksSubject : T (has (s .type) (s .subject)) → ⊥
   -- no earlier site of the box has the subject, and no site of an earlier box
   pub fresh : (j : ℕ) → j < i → siteAt (boxAt m b) j .subject ≢ s .subject
@@ -39,14 +39,14 @@ pub record ValidSite (m : Model) (b i : ℕ) (s : Site) : Type 0 where
 pub record ValidLine (m : Model) (l : Line) : Type 0 where
   pub known : l .op ≤ 8
   pub restrictListed : l .op ≡ restriction → l .name1 < length (m .kinds)
-  pub restrictKind : l .op ≡ restriction → kind (m .kinds) (l .name1) ≡ 1
+  pub restrictKind : l .op ≡ restriction → kindOfName (m .kinds) (l .name1) ≡ 1
   pub outputListed : l .op ≡ output → l .name1 < length (m .kinds)
   pub sentListed : l .op ≡ output → l .name2 < length (m .kinds)
   pub inputListed : l .op ≡ input → l .name1 < length (m .kinds)
   pub receivedListed : l .op ≡ input → l .name2 < length (m .kinds)
-  pub receivedKind : l .op ≡ input → kind (m .kinds) (l .name2) ≡ 2
+  pub receivedKind : l .op ≡ input → kindOfName (m .kinds) (l .name2) ≡ 2
   pub exposeListed : l .op ≡ expose → l .name1 < length (m .kinds)
-  pub exposeKind : l .op ≡ expose → kind (m .kinds) (l .name1) ≡ 3
+  pub exposeKind : l .op ≡ expose → kindOfName (m .kinds) (l .name1) ≡ 3
   pub exposeSize : l .op ≡ expose → TypeSize (l .type)
   pub exposeType : l .op ≡ expose → (n : ℕ) → n < 64 → T (has (l .type) n) → n < length (m .kinds)
   pub hideListed : l .op ≡ hide → l .name1 < length (m .kinds)
@@ -55,7 +55,7 @@ pub record ValidLine (m : Model) (l : Line) : Type 0 where
   pub exposeLacks : l .op ≡ expose → T (has (l .type) (l .name1)) → ⊥
   -- what the line binds is listed, and not free
   pub bindsListed : (n : ℕ) → T (binds l n) → n < length (m .kinds)
-  pub bindsKind : (n : ℕ) → T (binds l n) → 1 ≤ kind (m .kinds) n
+  pub bindsKind : (n : ℕ) → T (binds l n) → 1 ≤ kindOfName (m .kinds) n
 
 -- 8: line i of box x. What is bound strictly above a child is what the line binds, and what is bound strictly above the line
 pub record ValidTree (x : Box) (i : ℕ) (l : Line) : Type 0 where
@@ -69,12 +69,12 @@ pub record ValidTree (x : Box) (i : ℕ) (l : Line) : Type 0 where
 
 -- 9: line i of box b. A name that is used is free or bound strictly above; a name that is bound is bound in this box alone
 pub record ValidReach (m : Model) (b i : ℕ) (l : Line) : Type 0 where
-  pub outputChannel : l .op ≡ output → (kind (m .kinds) (l .name1) ≡ 0) ⊎ T (boundAbove (boxAt m b) i (l .name1))
-  pub outputSent : l .op ≡ output → (kind (m .kinds) (l .name2) ≡ 0) ⊎ T (boundAbove (boxAt m b) i (l .name2))
-  pub inputChannel : l .op ≡ input → (kind (m .kinds) (l .name1) ≡ 0) ⊎ T (boundAbove (boxAt m b) i (l .name1))
-  pub exposeReach : l .op ≡ expose → (n : ℕ) → n < 64 → T (has (l .type) n) → (kind (m .kinds) n ≡ 0) ⊎ T (boundAbove (boxAt m b) i n)
-  pub hideReach : l .op ≡ hide → (kind (m .kinds) (l .name1) ≡ 0) ⊎ T (boundAbove (boxAt m b) i (l .name1))
-  pub unhideReach : l .op ≡ unhide → (kind (m .kinds) (l .name1) ≡ 0) ⊎ T (boundAbove (boxAt m b) i (l .name1))
+  pub outputChannel : l .op ≡ output → (kindOfName (m .kinds) (l .name1) ≡ 0) ⊎ T (boundAbove (boxAt m b) i (l .name1))
+  pub outputSent : l .op ≡ output → (kindOfName (m .kinds) (l .name2) ≡ 0) ⊎ T (boundAbove (boxAt m b) i (l .name2))
+  pub inputChannel : l .op ≡ input → (kindOfName (m .kinds) (l .name1) ≡ 0) ⊎ T (boundAbove (boxAt m b) i (l .name1))
+  pub exposeReach : l .op ≡ expose → (n : ℕ) → n < 64 → T (has (l .type) n) → (kindOfName (m .kinds) n ≡ 0) ⊎ T (boundAbove (boxAt m b) i n)
+  pub hideReach : l .op ≡ hide → (kindOfName (m .kinds) (l .name1) ≡ 0) ⊎ T (boundAbove (boxAt m b) i (l .name1))
+  pub unhideReach : l .op ≡ unhide → (kindOfName (m .kinds) (l .name1) ≡ 0) ⊎ T (boundAbove (boxAt m b) i (l .name1))
   pub owned : (n : ℕ) → T (binds l n) → owner m n ≡ some b
 
 pub record ValidBox (m : Model) (b : ℕ) (x : Box) : Type 0 where
@@ -89,7 +89,7 @@ pub record ValidBox (m : Model) (b : ℕ) (x : Box) : Type 0 where
 
 pub record Valid (m : Model) : Type 0 where
   pub names : length (m .kinds) ≤ 60
-  pub kindsFit : (n : ℕ) → kind (m .kinds) n ≤ 3
+  pub kindsFit : (n : ℕ) → kindOfName (m .kinds) n ≤ 3
   pub mostBoxes : boxCount m ≤ 8
   pub box : (b : ℕ) → b < boxCount m → ValidBox m b (boxAt m b)
 
@@ -124,7 +124,7 @@ binds-iff l n = (
     tested : (l .op ≡ restriction) ⊎ (l .op ≡ expose) → T (l .op is restriction) ⊎ T (l .op is expose)
     tested = ⊎-elim (λ e. inl (is-iff (l .op) restriction .1 e)) (λ e. inr (is-iff (l .op) expose .1 e))
 
--- so what holds of a restricted, an exposed and a received name holds of a name that is bound
+-- so what is true of a restricted, an exposed and a received name is true of a name that is bound
 pub binds-case : (P : ℕ → Type 0) (l : Line) → (l .op ≡ restriction → P (l .name1)) → (l .op ≡ expose → P (l .name1))
     → (l .op ≡ input → P (l .name2)) → (n : ℕ) → T (binds l n) → P n
 binds-case P l f g h n t =
@@ -227,7 +227,7 @@ module _ (m : Model) (b i : ℕ) where
         unhideListed = λ e. named (omega arith);
         exposeLacks = λ e. bound3 e .1 .1;
         bindsListed = binds-case (λ n. n < length (m .kinds)) l (λ e. named (omega arith)) (λ e. named (omega arith)) (λ e. second (inr (is-iff (l .op) input .1 e)));
-        bindsKind = binds-case (λ n. 1 ≤ kind (m .kinds) n) l (λ e. omega (arith, bound1 e)) (λ e. omega (arith, bound3 e .0)) (λ e. omega (arith, bound2 e));
+        bindsKind = binds-case (λ n. 1 ≤ kindOfName (m .kinds) n) l (λ e. omega (arith, bound1 e)) (λ e. omega (arith, bound3 e .0)) (λ e. omega (arith, bound2 e));
       }
 
   -- 9
@@ -237,10 +237,10 @@ module _ (m : Model) (b i : ℕ) where
   valid-reach few h k v t =
       let p = simp (tests, or-iff, not-iff) at t in
       let l = lineAt (boxAt m b) i in
-      let reach : (n : ℕ) → n < 64 → T (uses l n) → (kind (m .kinds) n ≡ 0) ⊎ T (boundAbove (boxAt m b) i n) =
-      λ n q u. ⊎-elim (λ z. inl (is-iff (kind (m .kinds) n) 0 .0 z)) inr (p n q .0 u) in
+      let reach : (n : ℕ) → n < 64 → T (uses l n) → (kindOfName (m .kinds) n ≡ 0) ⊎ T (boundAbove (boxAt m b) i n) =
+      λ n q u. ⊎-elim (λ z. inl (is-iff (kindOfName (m .kinds) n) 0 .0 z)) inr (p n q .0 u) in
       let channel : (op : ℕ) → T (channelled op) → l .op ≡ op → l .name1 < length (m .kinds)
-      → (kind (m .kinds) (l .name1) ≡ 0) ⊎ T (boundAbove (boxAt m b) i (l .name1)) =
+      → (kindOfName (m .kinds) (l .name1) ≡ 0) ⊎ T (boundAbove (boxAt m b) i (l .name1)) =
       λ op u e q. reach (l .name1) (omega arith) (uses-channel l (subst (λ (o : ℕ). T (channelled o)) (sym e) u)) in
       record {
         outputChannel = λ e. channel output tt e (v .outputListed e);
@@ -278,7 +278,7 @@ pub record Counts (x : Box) : Type 0 where
   pub someLine : 1 ≤ lineCount x
   pub mostLines : lineCount x ≤ 124
 
-pub valid-of : (m : Model) → modelFault m ≡ none → length (m .kinds) ≤ 60 → ((n : ℕ) → kind (m .kinds) n ≤ 3) → boxCount m ≤ 8
+pub valid-of : (m : Model) → modelFault m ≡ none → length (m .kinds) ≤ 60 → ((n : ℕ) → kindOfName (m .kinds) n ≤ 3) → boxCount m ≤ 8
     → ((b : ℕ) → b < boxCount m → Counts (boxAt m b)) → Valid m
 valid-of m e few kinds boxes counts =
     let f = fits-iff m .0 e in

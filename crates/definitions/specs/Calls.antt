@@ -1,11 +1,11 @@
--- Start, step and run as calls on any image, any lent words and any moves: the answer, and what each lent buffer then holds. A
+-- Start, step and run as calls on any image, any lent words and any moves: the answer, and the words of each lent buffer after it. A
 -- refusal writes nothing. Assumes nothing.
 use mathlib.Core.Bool.{not}
 use mathlib.Core.List.{List, [], _∷_}
 use mathlib.Core.Option.{Option, none, some}
 use Prim.Native.Nat.{ℕ}
 use lib.ListN.{length}
-use Rattle.definitions.specs.Bounded.{_or_, _isnt_, faultIf, orElse}
+use Rattle.definitions.specs.Bounded.{_or_, _isnt_, someIf, orElse}
 use Rattle.definitions.specs.Answer.{Refusal, unplaced, answerNumber}
 use Rattle.definitions.specs.Model.{Model}
 use Rattle.definitions.specs.Image.{modelOf}
@@ -16,7 +16,7 @@ use Rattle.definitions.specs.Start.{startState}
 use Rattle.definitions.specs.Moves.{Move, Outcome, refused, made, act}
 
 -- what a call answers, and the words of the lent state after it
-pub record Stepped : Type 0 where
+pub record StepResult : Type 0 where
   pub answer : Option Refusal
   pub words : List ℕ
 
@@ -27,15 +27,15 @@ written (some r) new old = old
 
 -- start: refused for the model, then with 10
 unfoldable pub startRefusal : List ℕ → List ℕ → Option Refusal
-startRefusal image words = orElse (readModel image) (faultIf (length words isnt stateLength) (unplaced 10))
+startRefusal image words = orElse (readModel image) (someIf (length words isnt stateLength) (unplaced 10))
 
-unfoldable pub start : List ℕ → List ℕ → Stepped
+unfoldable pub start : List ℕ → List ℕ → StepResult
 start image words =
     let refusal = startRefusal image words in
     record { answer = refusal; words = written refusal (startState (modelOf image)) words }
 
 -- a move made in a state, or refused: its number, and the words after it
-abbrev pub outcomeNumber : Outcome (List ℕ) → ℕ
+abbrev pub outcomeNumber : {A : Type 0} → Outcome A → ℕ
 outcomeNumber (refused n) = n
 outcomeNumber (made w) = 0
 
@@ -51,20 +51,20 @@ outcomeRefusal (made w) = none
 unfoldable pub stateRefusal : List ℕ → List ℕ → Option Refusal
 stateRefusal image words =
     orElse (readModel image)
-    (orElse (faultIf (length words isnt stateLength) (unplaced 10)) (faultIf (not (stateFits (modelOf image) words)) (unplaced 11)))
+    (orElse (someIf (length words isnt stateLength) (unplaced 10)) (someIf (not (stateFits (modelOf image) words)) (unplaced 11)))
 
-unfoldable pub step : List ℕ → List ℕ → Move → Stepped
+unfoldable pub step : List ℕ → List ℕ → Move → StepResult
 step image words v =
     let refusal = stateRefusal image words in
     let outcome = act (modelOf image) words v in
     record { answer = orElse refusal (outcomeRefusal outcome); words = written refusal (outcomeWords words outcome) words }
 
 -- a list of step calls, one a move: each gets what the last left. The answers as numbers, and the words at the end
-pub record Ran : Type 0 where
+pub record MovesResult : Type 0 where
   pub answers : List ℕ
   pub words : List ℕ
 
-unfoldable pub steps : List ℕ → List ℕ → List Move → Ran
+unfoldable pub steps : List ℕ → List ℕ → List Move → MovesResult
 steps image words [] = record { answers = []; words = words }
 steps image words (v ∷ vs) =
     let first = step image words v in
@@ -72,15 +72,15 @@ steps image words (v ∷ vs) =
     record { answers = answerNumber (first .answer) ∷ rest .answers; words = rest .words }
 
 -- the moves of a run, each in turn; refused ones are passed over
-unfoldable pub makes : Model → List ℕ → List Move → Ran
-makes m words [] = record { answers = []; words = words }
-makes m words (v ∷ vs) =
+unfoldable pub actAll : Model → List ℕ → List Move → MovesResult
+actAll m words [] = record { answers = []; words = words }
+actAll m words (v ∷ vs) =
     let outcome = act m words v in
-    let rest = makes m (outcomeWords words outcome) vs in
+    let rest = actAll m (outcomeWords words outcome) vs in
     record { answers = outcomeNumber outcome ∷ rest .answers; words = rest .words }
 
--- run: the answer of the call, and what the lent state and the lent answer list then hold
-pub record Run : Type 0 where
+-- run: the answer of the call, and the words of the lent state and of the lent answer list after it
+pub record RunResult : Type 0 where
   pub answer : Option Refusal
   pub words : List ℕ
   pub answers : List ℕ
@@ -89,11 +89,12 @@ pub record Run : Type 0 where
 unfoldable pub runRefusal : List ℕ → List ℕ → List Move → List ℕ → Option Refusal
 runRefusal image words moves answers =
     orElse (readModel image)
-    (orElse (faultIf (length words isnt stateLength or length answers isnt length moves) (unplaced 10))
-    (faultIf (not (stateFits (modelOf image) words)) (unplaced 11)))
+    (orElse (someIf (length words isnt stateLength or length answers isnt length moves) (unplaced 10))
+    (someIf (not (stateFits (modelOf image) words)) (unplaced 11)))
 
-unfoldable pub run : List ℕ → List ℕ → List Move → List ℕ → Run
+-- a run that is not refused is the list of its step calls (crate isolation, proofs/Reached, run-is-steps)
+unfoldable pub run : List ℕ → List ℕ → List Move → List ℕ → RunResult
 run image words moves answers =
     let refusal = runRefusal image words moves answers in
-    let all = makes (modelOf image) words moves in
+    let all = actAll (modelOf image) words moves in
     record { answer = refusal; words = written refusal (all .words) words; answers = written refusal (all .answers) answers }

@@ -12,6 +12,6 @@ checkFrom c (w ∷ ws) = checkFrom ((31 * c + w) % 2 ^ 64) ws
 unfoldable pub checkOf : List ℕ → ℕ
 checkOf block = checkFrom 1 (wordsOf 63 block)
 
--- the check that the block itself holds, in bytes 504 to 511
-unfoldable pub checkHeld : List ℕ → ℕ
-checkHeld block = wordAt block 504
+-- the check that the block stores, in bytes 504 to 511
+unfoldable pub storedCheck : List ℕ → ℕ
+storedCheck block = wordAt block 504

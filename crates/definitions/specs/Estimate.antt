@@ -1,6 +1,7 @@
--- An estimate: sets of name numbers, as proposed for a model; and the estimate that an image holds. Assumes nothing.
+-- An estimate: sets of name numbers, as proposed for a model; and the estimate of an image. Assumes nothing.
 use mathlib.Core.List.{List}
 use Prim.Native.Nat.{ℕ, _+_, _*_}
+use Rattle.definitions.specs.Limits.{shownWord, hiddenWord}
 use Rattle.definitions.specs.Words.{blockOf, dataWord}
 
 -- rho(n): what name n may stand for. In box b: eps(b,n) the types of its sites on n, kap(b,n) what may be sent on n, and its shown
@@ -24,6 +25,6 @@ estimateOf image = record {
   rho = λ n. dataWord (blockOf image 0) n;
   eps = λ b n. dataWord (blockOf image (epsBlock b)) n;
   kap = λ b n. dataWord (blockOf image (kapBlock b)) n;
-  shown = λ b. dataWord (blockOf image (epsBlock b)) 60;
-  hidden = λ b. dataWord (blockOf image (epsBlock b)) 61;
+  shown = λ b. dataWord (blockOf image (epsBlock b)) shownWord;
+  hidden = λ b. dataWord (blockOf image (epsBlock b)) hiddenWord;
 }

@@ -1,8 +1,9 @@
--- The model that an image holds. Assumes nothing.
+-- The model of an image. Assumes nothing.
 use mathlib.Core.Bool.{true, false}
 use mathlib.Core.List.{List}
 use Prim.Native.Nat.{ℕ, zero, suc, _+_, _-_, _*_, _/_, _%_, _^_}
 use Rattle.definitions.specs.Bounded.{_below_, tabulate}
+use Rattle.definitions.specs.Limits.{blockLines, lineBlockLimit}
 use Rattle.definitions.specs.Words.{blockOf, countOf, dataWord}
 use Rattle.definitions.specs.Model.{Site, Line, Box, Model}
 
@@ -36,22 +37,23 @@ boxesOf image = dataWord (blockOf image 0) 1
 unfoldable pub kindsOf : List ℕ → List ℕ
 kindsOf image = let head = blockOf image 0 in tabulate (nameCount image) (λ n. dataWord head (2 + n))
 
--- how many blocks of lines a box has, of at most so many, the first being block k: a block with fewer than 31 ends the box
+-- how many blocks of lines a box has, of at most so many, the first being block k: a block with fewer than 31 records ends the box
 unfoldable pub lineBlocks : ℕ → List ℕ → ℕ → ℕ
 lineBlocks zero image k = 0
-lineBlocks (suc most) image k = elim (countOf (blockOf image k) below 31) [ true ↦ 1 | false ↦ 1 + lineBlocks most image (k + 1) ]
+lineBlocks (suc most) image k =
+    elim (countOf (blockOf image k) below blockLines) [ true ↦ 1 | false ↦ 1 + lineBlocks most image (k + 1) ]
 
 -- the block of box b's sites; its lines follow, in one to four blocks; then comes the next box
 unfoldable pub sitesBlock : List ℕ → ℕ → ℕ
 sitesBlock image zero = 1
-sitesBlock image (suc b) = let k = sitesBlock image b in k + 1 + lineBlocks 4 image (k + 1)
+sitesBlock image (suc b) = let k = sitesBlock image b in k + 1 + lineBlocks lineBlockLimit image (k + 1)
 
 -- how many lines box b has: 31 in each of its blocks but the last
 unfoldable pub linesOf : List ℕ → ℕ → ℕ
 linesOf image b =
     let k = sitesBlock image b in
-    let n = lineBlocks 4 image (k + 1) in
-    31 * (n - 1) + countOf (blockOf image (k + n))
+    let n = lineBlocks lineBlockLimit image (k + 1) in
+    blockLines * (n - 1) + countOf (blockOf image (k + n))
 
 unfoldable pub boxOfImage : List ℕ → ℕ → Box
 boxOfImage image b =
@@ -59,7 +61,7 @@ boxOfImage image b =
     let block = blockOf image k in
     record {
       sites = tabulate (countOf block) (siteRecord block);
-      lines = tabulate (linesOf image b) (λ i. lineRecord (blockOf image (k + 1 + i / 31)) (i % 31));
+      lines = tabulate (linesOf image b) (λ i. lineRecord (blockOf image (k + 1 + i / blockLines)) (i % blockLines));
     }
 
 unfoldable pub modelOf : List ℕ → Model

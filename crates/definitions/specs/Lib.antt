@@ -1,4 +1,5 @@
 pub mod Bounded
+pub mod Limits
 pub mod Sets
 pub mod Words
 pub mod Check
@@ -17,6 +18,4 @@ pub mod StateRules
 pub mod Start
 pub mod Moves
 pub mod Calls
-pub mod Apart
-pub mod Encode
 pub mod Starred

@@ -4,8 +4,9 @@ use mathlib.Core.Bool.{Bool, true, false}
 use mathlib.Core.List.{List, _∷_}
 use mathlib.Core.Option.{Option, none, some}
 use Prim.Native.Nat.{ℕ, zero, suc, _+_}
-use Rattle.definitions.specs.Bounded.{_and_, _or_, _is_, _isnt_, _below_, anyBelow, faultIf, firstBelow}
-use Rattle.definitions.specs.Model.{Line, Box, Model, lineAt, boxAt, boxCount, kind, nil, parallel, replication, restriction, output as opOutput, input as opInput, expose as opExpose, hide as opHide, unhide as opUnhide}
+use Rattle.definitions.specs.Bounded.{_and_, _is_, _isnt_, _below_, anyBelow, someIf, firstBelow}
+use Rattle.definitions.specs.Limits.{slotLimit, typeLimit}
+use Rattle.definitions.specs.Model.{Line, Box, Model, lineAt, boxAt, boxCount, kindOfName, nil, parallel, replication, restriction, output as opOutput, input as opInput, expose as opExpose, hide as opHide, unhide as opUnhide}
 use Rattle.definitions.specs.Record.{held, heldNumber, stampLimit, stamp, threads, sites, site, thread, subject, flag, typeWord, line, binding, setStamp, putThread, pushThread, takeThread, putSite, pushSite, setFlag, goto, bind, recordOf, putRecord}
 use Rattle.definitions.specs.Start.{typeWords, freeHeld}
 
@@ -49,7 +50,7 @@ pub record Ends : Type 0 where
   pub input : List ℕ
   pub output : List ℕ
 
--- refused with a number, unless a test holds
+-- refused with a number, unless a test passes
 abbrev pub need : {A : Type 0} → Bool → ℕ → Outcome A → Outcome A
 need true n o = o
 need false n o = refused n
@@ -60,39 +61,48 @@ onMade f (made a) = made (f a)
 
 -- the site of a record that has the held name v as its subject, and is shown (0) or hidden (1): found by its held name
 unfoldable pub siteWith : List ℕ → ℕ → ℕ → Option ℕ
-siteWith r v f = firstBelow 16 (λ i. faultIf (i below sites r and subject (site r i) is v and flag (site r i) is f) i)
+siteWith r v f = firstBelow slotLimit (λ i. someIf (i below sites r and subject (site r i) is v and flag (site r i) is f) i)
+
+-- there is such a site; its place
+abbrev pub found : Option ℕ → Bool
+found none = false
+found (some i) = true
+
+abbrev pub at : Option ℕ → ℕ
+at none = 0
+at (some i) = i
 
 -- two sites' types share a held name
 unfoldable pub typesShare : List ℕ → List ℕ → Bool
-typesShare x y = anyBelow 8 (λ i. typeWord x i isnt 0 and anyBelow 8 (λ j. typeWord x i is typeWord y j))
+typesShare x y = anyBelow typeLimit (λ i. typeWord x i isnt 0 and anyBelow typeLimit (λ j. typeWord x i is typeWord y j))
 
 module _ (kinds : List ℕ) where
   -- what name n stands for in a thread: a free name holds itself, any other is bound
   unfoldable pub valueIn : List ℕ → ℕ → ℕ
-  valueIn y n = elim (kind kinds n is 0) [ true ↦ freeHeld n | false ↦ binding y n ]
+  valueIn y n = elim (kindOfName kinds n is 0) [ true ↦ freeHeld n | false ↦ binding y n ]
 
   module _ (x : Box) (r : List ℕ) where
     -- the line at which thread t stands
-    unfoldable pub lineOf : ℕ → Line
-    lineOf t = lineAt x (line (thread r t))
+    unfoldable pub threadLine : ℕ → Line
+    threadLine t = lineAt x (line (thread r t))
 
     -- thread t's words, gone on to its line's first child; the same with name n bound to v
     unfoldable pub onward : ℕ → List ℕ
-    onward t = goto (thread r t) (lineOf t .child1)
+    onward t = goto (thread r t) (threadLine t .child1)
 
     unfoldable pub onwardWith : ℕ → ℕ → ℕ → List ℕ
-    onwardWith t n v = goto (bind (thread r t) n v) (lineOf t .child1)
+    onwardWith t n v = goto (bind (thread r t) n v) (threadLine t .child1)
 
     -- what the first and the second name of thread t's line stand for
     unfoldable pub value1 : ℕ → ℕ
-    value1 t = valueIn (thread r t) (lineOf t .name1)
+    value1 t = valueIn (thread r t) (threadLine t .name1)
 
     unfoldable pub value2 : ℕ → ℕ
-    value2 t = valueIn (thread r t) (lineOf t .name2)
+    value2 t = valueIn (thread r t) (threadLine t .name2)
 
     -- 12 no such thread, 14 not at the line that the move needs
     unfoldable pub atLine : ℕ → ℕ → Outcome (List ℕ) → Outcome (List ℕ)
-    atLine t op o = need (t below threads r) 12 (need (lineOf t .op is op) 14 o)
+    atLine t op o = need (t below threads r) 12 (need (threadLine t .op is op) 14 o)
 
     -- 1 drop: nil; removed, later threads move down, the freed last record is zeroed
     unfoldable pub dropMove : ℕ → Outcome (List ℕ)
@@ -101,41 +111,41 @@ module _ (kinds : List ℕ) where
     -- 2 spread: first child in place, second appended, both with the thread's bindings; 19 full
     unfoldable pub spreadMove : ℕ → Outcome (List ℕ)
     spreadMove t =
-        atLine t parallel (need (threads r below 16) 19
-        (made (pushThread (putThread r t (onward t)) (goto (thread r t) (lineOf t .child2)))))
+        atLine t parallel (need (threads r below slotLimit) 19
+        (made (pushThread (putThread r t (onward t)) (goto (thread r t) (threadLine t .child2)))))
 
     -- 3 new: stamp up by one, name bound, child; 20 spent
     unfoldable pub newMove : ℕ → Outcome (List ℕ)
     newMove t =
-        let n = lineOf t .name1 in
+        let n = threadLine t .name1 in
         let s = stamp r + 1 in
         atLine t restriction (need (stamp r below stampLimit) 20 (made (putThread (setStamp r s) t (onwardWith t n (held n s)))))
 
     -- 4 copy: the replication stays, its child is appended with the same bindings; 19 full
     unfoldable pub copyMove : ℕ → Outcome (List ℕ)
-    copyMove t = atLine t replication (need (threads r below 16) 19 (made (pushThread r (onward t))))
+    copyMove t = atLine t replication (need (threads r below slotLimit) 19 (made (pushThread r (onward t))))
 
     -- 5 expose: stamp up by one, site appended, shown, with the type's held names; subject bound, child; 19 full, 20 spent
     unfoldable pub exposeMove : ℕ → Outcome (List ℕ)
     exposeMove t =
-        let n = lineOf t .name1 in
+        let n = threadLine t .name1 in
         let s = stamp r + 1 in
-        atLine t opExpose (need (sites r below 16) 19 (need (stamp r below stampLimit) 20
+        atLine t opExpose (need (sites r below slotLimit) 19 (need (stamp r below stampLimit) 20
         (made (pushSite (putThread (setStamp r s) t (onwardWith t n (held n s)))
-        (held n s ∷ 0 ∷ typeWords (valueIn (thread r t)) (lineOf t .type))))))
+        (held n s ∷ 0 ∷ typeWords (valueIn (thread r t)) (threadLine t .type))))))
 
     -- 6 hide, 7 unhide: the site whose subject is the held name changes from one flag to the other, child; 16 no such site
     unfoldable pub turnMove : ℕ → ℕ → ℕ → ℕ → Outcome (List ℕ)
     turnMove op before after t =
-        atLine t op
-        (elim (siteWith r (value1 t) before) [ none ↦ refused 16 | some i ↦ made (putSite (putThread r t (onward t)) i (setFlag (site r i) after)) ])
+        let i = siteWith r (value1 t) before in
+        atLine t op (need (found i) 16 (made (putSite (putThread r t (onward t)) (at i) (setFlag (site r (at i)) after))))
 
     -- 8 intra: first thread input, second output, one channel; the sent name is bound, both go to their children; 13 self, 15 channel
     unfoldable pub intraMove : ℕ → ℕ → Outcome (List ℕ)
     intraMove t u =
         need (t below threads r and u below threads r) 12 (need (t isnt u) 13
-        (need (lineOf t .op is opInput and lineOf u .op is opOutput) 14 (need (value1 t is value1 u) 15
-        (made (putThread (putThread r t (onwardWith t (lineOf t .name2) (value2 u))) u (onward u))))))
+        (need (threadLine t .op is opInput and threadLine u .op is opOutput) 14 (need (value1 t is value1 u) 15
+        (made (putThread (putThread r t (onwardWith t (threadLine t .name2) (value2 u))) u (onward u))))))
 
     -- a move of kinds 1 to 8, with its thread and second thread
     unfoldable pub insideMove : Inside → ℕ → ℕ → Outcome (List ℕ)
@@ -151,18 +161,19 @@ module _ (kinds : List ℕ) where
   -- 9 inter, the input end first: thread t of the box x with record r, thread u of the box y with record s; 14 wrong line, 16 no
   -- site, 17 unfit, 18 private
   module _ (x : Box) (r : List ℕ) (y : Box) (s : List ℕ) where
-    unfoldable pub interSites : ℕ → ℕ → ℕ → ℕ → Outcome Ends
-    interSites t u i j =
-        need (typesShare (site r i) (site s j)) 17 (need (kind kinds (heldNumber (value2 y s u)) isnt 1) 18
-        (made (record { input = putThread r t (onwardWith x r t (lineOf x r t .name2) (value2 y s u)); output = putThread s u (onward y s u) })))
-
     unfoldable pub interMove : ℕ → ℕ → Outcome Ends
     interMove t u =
-        need (lineOf x r t .op is opInput and lineOf y s u .op is opOutput) 14
-        (elim (siteWith r (value1 x r t) 0) [
-          | none ↦ refused 16
-          | some i ↦ elim (siteWith s (value1 y s u) 0) [ none ↦ refused 16 | some j ↦ interSites t u i j ]
-        ])
+        let i = siteWith r (value1 x r t) 0 in
+        let j = siteWith s (value1 y s u) 0 in
+        let sent = value2 y s u in
+        need (threadLine x r t .op is opInput and threadLine y s u .op is opOutput) 14
+        (need (found i and found j) 16
+        (need (typesShare (site r (at i)) (site s (at j))) 17
+        (need (kindOfName kinds (heldNumber sent) isnt 1) 18
+        (made (record {
+          input = putThread r t (onwardWith x r t (threadLine x r t .name2) sent);
+          output = putThread s u (onward y s u);
+        })))))
 
 -- ---- a move in a state
 
@@ -178,13 +189,11 @@ module _ (m : Model) (st : List ℕ) where
       (onMade (λ e. putRecord (putRecord st b (e .input)) c (e .output))
       (interMove (m .kinds) (boxAt m b) (recordOf st b) (boxAt m c) (recordOf st c) t u)))
 
-  unfoldable pub act : Move → Outcome (List ℕ)
-  act v = elim (kindOfMove (v .kind)) [
-    | inside k ↦ insideAct k (v .box) (v .thread) (v .thread2)
-    | inter ↦ interAct (v .box) (v .thread) (v .box2) (v .thread2)
-    | unknown ↦ refused 12
-  ]
+  -- a move as a move of some kind
+  unfoldable pub actAs : Kind → Move → Outcome (List ℕ)
+  actAs (inside k) v = insideAct k (v .box) (v .thread) (v .thread2)
+  actAs inter v = interAct (v .box) (v .thread) (v .box2) (v .thread2)
+  actAs unknown v = refused 12
 
--- a move names the boxes that its kind uses: kinds 1 to 8 one, 9 two, unknown ones none
-unfoldable pub namesBox : Move → ℕ → Bool
-namesBox v h = elim (kindOfMove (v .kind)) [ inside k ↦ v .box is h | inter ↦ v .box is h or v .box2 is h | unknown ↦ false ]
+  unfoldable pub act : Move → Outcome (List ℕ)
+  act v = actAs (kindOfMove (v .kind)) v

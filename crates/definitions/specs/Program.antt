@@ -30,8 +30,8 @@ unfoldable pub threeNumbers : ℕ → ℕ → ℕ → List ℕ
 threeNumbers a b c = decimal a ++ bytesOf " " ++ decimal b ++ bytesOf " " ++ decimal c ++ bytesOf "\n"
 
 -- accepted; clause with its number, box and record; refused with the image, the number and both places
-unfoldable pub lineOf : Verdict → List ℕ
-lineOf accepted = bytesOf "accepted\n"
-lineOf (breaks b) = bytesOf "clause " ++ threeNumbers (b .clause) (b .box) (b .place)
-lineOf (refusedModel r) = bytesOf "refused model " ++ threeNumbers (r .number) (r .place) (r .second)
-lineOf (refusedEstimate r) = bytesOf "refused estimate " ++ threeNumbers (r .number) (r .place) (r .second)
+unfoldable pub verdictLine : Verdict → List ℕ
+verdictLine accepted = bytesOf "accepted\n"
+verdictLine (breaks b) = bytesOf "clause " ++ threeNumbers (b .clause) (b .box) (b .place)
+verdictLine (refusedModel r) = bytesOf "refused model " ++ threeNumbers (r .number) (r .place) (r .second)
+verdictLine (refusedEstimate r) = bytesOf "refused estimate " ++ threeNumbers (r .number) (r .place) (r .second)

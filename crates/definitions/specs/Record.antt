@@ -2,6 +2,7 @@
 use mathlib.Core.List.{List}
 use Prim.Native.Nat.{ℕ, _+_, _-_, _*_, _/_, _%_}
 use lib.ListN.{set}
+use Rattle.definitions.specs.Limits.{slotLimit}
 use Rattle.definitions.specs.Slots.{word, slot, putSlot, pushSlot, takeSlot}
 
 -- a held name: what a thread or a site carries at run time, a name's number with a stamp; 0 is none
@@ -19,6 +20,21 @@ abbrev pub stampLimit : ℕ
 stampLimit = 65535
 
 -- a box record of 1,139 words: last stamp, thread count, site count, 16 sites of 10 words, 16 threads of 61
+abbrev pub siteBase : ℕ
+siteBase = 3
+
+abbrev pub siteWidth : ℕ
+siteWidth = 10
+
+abbrev pub threadBase : ℕ
+threadBase = 163
+
+abbrev pub threadWidth : ℕ
+threadWidth = 61
+
+abbrev pub recordLength : ℕ
+recordLength = 1139
+
 abbrev pub stamp : List ℕ → ℕ
 stamp r = word r 0
 
@@ -29,10 +45,10 @@ abbrev pub sites : List ℕ → ℕ
 sites r = word r 2
 
 abbrev pub site : List ℕ → ℕ → List ℕ
-site r i = slot 3 10 r i
+site r i = slot siteBase siteWidth r i
 
 abbrev pub thread : List ℕ → ℕ → List ℕ
-thread r t = slot 163 61 r t
+thread r t = slot threadBase threadWidth r t
 
 -- a site: subject, 0 shown or 1 hidden, its type as 8 words
 abbrev pub subject : List ℕ → ℕ
@@ -56,19 +72,19 @@ abbrev pub setStamp : List ℕ → ℕ → List ℕ
 setStamp r v = set r 0 v
 
 abbrev pub putThread : List ℕ → ℕ → List ℕ → List ℕ
-putThread r t x = putSlot 163 61 r t x
+putThread r t x = putSlot threadBase threadWidth r t x
 
 abbrev pub pushThread : List ℕ → List ℕ → List ℕ
-pushThread r x = pushSlot 163 61 1 r x
+pushThread r x = pushSlot threadBase threadWidth 1 r x
 
 abbrev pub takeThread : List ℕ → ℕ → List ℕ
-takeThread r t = takeSlot 163 61 16 1 r t
+takeThread r t = takeSlot threadBase threadWidth slotLimit 1 r t
 
 abbrev pub putSite : List ℕ → ℕ → List ℕ → List ℕ
-putSite r i x = putSlot 3 10 r i x
+putSite r i x = putSlot siteBase siteWidth r i x
 
 abbrev pub pushSite : List ℕ → List ℕ → List ℕ
-pushSite r x = pushSlot 3 10 2 r x
+pushSite r x = pushSlot siteBase siteWidth 2 r x
 
 -- edits of a site and of a thread
 abbrev pub setFlag : List ℕ → ℕ → List ℕ
@@ -85,10 +101,10 @@ abbrev pub stateLength : ℕ
 stateLength = 9112
 
 abbrev pub recordOf : List ℕ → ℕ → List ℕ
-recordOf st b = slot 0 1139 st b
+recordOf st b = slot 0 recordLength st b
 
 abbrev pub putRecord : List ℕ → ℕ → List ℕ → List ℕ
-putRecord st b r = putSlot 0 1139 st b r
+putRecord st b r = putSlot 0 recordLength st b r
 
 -- each box's last stamp
 unfoldable pub lastStamps : List ℕ → ℕ → ℕ

@@ -8,7 +8,7 @@ use Rattle.definitions.specs.Words.{blockOf}
 use Rattle.definitions.specs.Answer.{Refusal, unplaced}
 use Rattle.definitions.specs.Image.{boxesOf}
 use Rattle.definitions.specs.Estimate.{Estimate, estimateOf}
-use Rattle.definitions.specs.Clauses.{Verdict, accepted, breaks, refusedModel, refusedEstimate, check}
+use Rattle.definitions.specs.Clauses.{Verdict, accepted, breaks, refusedModel, refusedEstimate, readBoth, check}
 
 -- boxes h and k share a type name: some a in shown(h) and c in shown(k) with eps(h,a) and eps(k,c) sharing a name
 unfoldable pub linked : Estimate → ℕ → ℕ → Bool
@@ -30,10 +30,13 @@ reply (breaks x) r = notAccepted (breaks x)
 reply (refusedModel x) r = notAccepted (refusedModel x)
 reply (refusedEstimate x) r = notAccepted (refusedEstimate x)
 
+-- the answer for box h where the estimate is accepted
+abbrev pub boxReply : List ℕ → List ℕ → ℕ → Reply
+boxReply model estimate h =
+    elim (h below boxesOf model) [ true ↦ isShutOff (shutOff (estimateOf estimate) (boxesOf model) h) | false ↦ nobody (unplaced 12) ]
+
 unfoldable pub question : List ℕ → List ℕ → ℕ → Reply
-question model estimate h =
-    reply (check model estimate)
-    (elim (h below boxesOf model) [ true ↦ isShutOff (shutOff (estimateOf estimate) (boxesOf model) h) | false ↦ nobody (unplaced 12) ])
+question model estimate h = reply (check model estimate) (boxReply model estimate h)
 
 -- the refused block as a part of the image it stands in: for refusals 2 to 5 the block, otherwise nothing
 unfoldable pub refusedPart : List ℕ → Refusal → List ℕ
@@ -46,4 +49,4 @@ refusedIn model estimate (refusedModel r) = refusedPart model r
 refusedIn model estimate (refusedEstimate r) = refusedPart estimate r
 
 unfoldable pub refusedBlock : List ℕ → List ℕ → List ℕ
-refusedBlock model estimate = refusedIn model estimate (check model estimate)
+refusedBlock model estimate = refusedIn model estimate (readBoth model estimate)

@@ -4,34 +4,33 @@ use mathlib.Core.List.{List, [], _∷_}
 use mathlib.Core.Option.{Option, none, some}
 use Prim.Native.Nat.{ℕ, _+_, _^_}
 use lib.ListN.{getD}
-use Rattle.definitions.specs.Bounded.{_and_, _is_, allBelow, tabulate}
+use Rattle.definitions.specs.Bounded.{_and_, _is_, tabulate}
 use Rattle.definitions.specs.Model.{Site, Line, Box, Model}
 use Rattle.definitions.specs.Estimate.{Estimate}
 use Rattle.definitions.specs.Clauses.{Broken, broken, firstBroken}
 use Rattle.definitions.specs.Record.{thread, threads, line, binding, recordOf}
 use Rattle.definitions.specs.Start.{startState, freeHeld}
 use Rattle.definitions.specs.Moves.{Move}
-use Rattle.definitions.specs.Calls.{makes}
-use Rattle.definitions.specs.Encode.{encodeModel, encodeEstimate}
+use Rattle.definitions.specs.Calls.{actAll}
 
 -- ---- model K. Names: 0 x, 1 z, 3 u, 4 v, 5 c are free, 2 y is received
 
-abbrev pub site : ℕ → ℕ → Site
-site n type = record { subject = n; flag = 0; spare = 0; type = type }
+abbrev pub shownSite : ℕ → ℕ → Site
+shownSite n type = record { subject = n; flag = 0; spare = 0; type = type }
 
-abbrev pub line0 : ℕ → ℕ → ℕ → ℕ → ℕ → Line
-line0 op n1 n2 c1 c2 = record { op = op; name1 = n1; name2 = n2; spare = 0; child1 = c1; child2 = c2; type = 0 }
+abbrev pub untypedLine : ℕ → ℕ → ℕ → ℕ → ℕ → Line
+untypedLine op n1 n2 c1 c2 = record { op = op; name1 = n1; name2 = n2; spare = 0; child1 = c1; child2 = c2; type = 0 }
 
 -- box 0: site x shown, type {c}; 0 parallel (1, 3); 1 input on x into y; 2 nil; 3 output on x of z; 4 nil
 unfoldable pub boxK0 : Box
 boxK0 = record {
-  sites = site 0 (2 ^ 5) ∷ [];
-  lines = line0 1 0 0 1 3 ∷ line0 5 0 2 2 0 ∷ line0 0 0 0 0 0 ∷ line0 4 0 1 4 0 ∷ line0 0 0 0 0 0 ∷ [];
+  sites = shownSite 0 (2 ^ 5) ∷ [];
+  lines = untypedLine 1 0 0 1 3 ∷ untypedLine 5 0 2 2 0 ∷ untypedLine 0 0 0 0 0 ∷ untypedLine 4 0 1 4 0 ∷ untypedLine 0 0 0 0 0 ∷ [];
 }
 
 -- box 1: site u shown, type {c}; 0 output on u of v; 1 nil
 unfoldable pub boxK1 : Box
-boxK1 = record { sites = site 3 (2 ^ 5) ∷ []; lines = line0 4 3 4 1 0 ∷ line0 0 0 0 0 0 ∷ [] }
+boxK1 = record { sites = shownSite 3 (2 ^ 5) ∷ []; lines = untypedLine 4 3 4 1 0 ∷ untypedLine 0 0 0 0 0 ∷ [] }
 
 unfoldable pub K : Model
 K = record { kinds = 0 ∷ 0 ∷ 2 ∷ 0 ∷ 0 ∷ 0 ∷ []; boxes = boxK0 ∷ boxK1 ∷ [] }
@@ -109,23 +108,8 @@ allSeen st (s ∷ ss) = isSeen st s and allSeen st ss
 
 unfoldable pub agrees : Case → Bool
 agrees (estimate e expected) = sameBroken (firstBroken K e) expected
-agrees (moves vs answers seen) = let ran = makes K (startState K) vs in sameNumbers (ran .answers) answers and allSeen (ran .words) seen
+agrees (moves vs answers seen) = let ran = actAll K (startState K) vs in sameNumbers (ran .answers) answers and allSeen (ran .words) seen
 
 unfoldable pub allAgree : List Case → Bool
 allAgree [] = true
 allAgree (x ∷ xs) = agrees x and allAgree xs
-
--- ---- the images
-
-unfoldable pub imageK : List ℕ
-imageK = encodeModel K
-
-unfoldable pub imageE : List ℕ
-imageE = encodeEstimate 6 2 E
-
--- two estimates have the same sets for so many names and boxes
-unfoldable pub sameSets : ℕ → ℕ → Estimate → Estimate → Bool
-sameSets names boxes d e =
-    allBelow names (λ n. d .rho n is e .rho n)
-    and allBelow boxes (λ b.
-    d .shown b is e .shown b and d .hidden b is e .hidden b and allBelow names (λ n. d .eps b n is e .eps b n and d .kap b n is e .kap b n))

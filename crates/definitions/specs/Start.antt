@@ -1,13 +1,14 @@
 -- The state that a start writes. Assumes nothing.
 use mathlib.Core.Bool.{true, false}
 use mathlib.Core.List.{List, [], _∷_, _++_, map}
-use Prim.Native.Nat.{ℕ, _+_}
+use Prim.Native.Nat.{ℕ, _*_}
 use lib.ListN.{take}
 use Rattle.definitions.specs.Bounded.{_is_, _below_, flat}
+use Rattle.definitions.specs.Limits.{boxLimit, slotLimit, typeLimit}
 use Rattle.definitions.specs.Sets.{members}
 use Rattle.definitions.specs.Slots.{zeros}
 use Rattle.definitions.specs.Model.{Site, Box, Model, siteAt, boxAt, siteCount, boxCount}
-use Rattle.definitions.specs.Record.{held}
+use Rattle.definitions.specs.Record.{held, siteWidth, threadWidth, recordLength}
 
 -- v put into an ascending list without repeats
 unfoldable pub insert : ℕ → List ℕ → List ℕ
@@ -20,7 +21,7 @@ ascending (v ∷ vs) = insert v (ascending vs)
 
 -- a type as 8 words: the held names of its names, ascending without repeats
 unfoldable pub typeWords : (ℕ → ℕ) → ℕ → List ℕ
-typeWords hold type = take 8 (ascending (map hold (members type)) ++ zeros 8)
+typeWords hold type = take typeLimit (ascending (map hold (members type)) ++ zeros typeLimit)
 
 -- a free name holds itself, with stamp 0
 abbrev pub freeHeld : ℕ → ℕ
@@ -32,8 +33,9 @@ startSite s = freeHeld (s .subject) ∷ s .flag ∷ typeWords freeHeld (s .type)
 -- stamp 0, one thread, at line 0 and with no binding; the box's sites in order
 unfoldable pub startRecord : Box → List ℕ
 startRecord x =
-    (0 ∷ 1 ∷ siteCount x ∷ []) ++ flat 16 (λ i. elim (i below siteCount x) [ true ↦ startSite (siteAt x i) | false ↦ zeros 10 ])
-    ++ zeros 976
+    (0 ∷ 1 ∷ siteCount x ∷ [])
+    ++ flat slotLimit (λ i. elim (i below siteCount x) [ true ↦ startSite (siteAt x i) | false ↦ zeros siteWidth ])
+    ++ zeros (threadWidth * slotLimit)
 
 unfoldable pub startState : Model → List ℕ
-startState m = flat 8 (λ b. elim (b below boxCount m) [ true ↦ startRecord (boxAt m b) | false ↦ zeros 1139 ])
+startState m = flat boxLimit (λ b. elim (b below boxCount m) [ true ↦ startRecord (boxAt m b) | false ↦ zeros recordLength ])

@@ -31,8 +31,8 @@ blockOf image k = take 512 (drop (512 * k) image)
 unfoldable pub numberOf : List ℕ → ℕ
 numberOf block = byteAt block 0 + 256 * byteAt block 1
 
-unfoldable pub kindOf : List ℕ → ℕ
-kindOf block = byteAt block 2
+unfoldable pub kindOfBlock : List ℕ → ℕ
+kindOfBlock block = byteAt block 2
 
 unfoldable pub boxOf : List ℕ → ℕ
 boxOf block = byteAt block 3

@@ -11,13 +11,13 @@ use borrow.Author.Needs.{needs}
 use lib.Dec.{T, eqb}
 use lib.Pow.{pow-mono}
 use Rattle.definitions.specs.Bounded.{_and_, _or_, _is_, _below_, _upto_, anyBelow}
-use Rattle.definitions.specs.Sets.{has}
+use Rattle.definitions.specs.Sets.{has, noBitPast}
 use Rattle.definitions.specs.Words.{dataWord}
-use Rattle.definitions.specs.ReadEstimate.{noBitPast, setsFit, isSet}
+use Rattle.definitions.specs.ReadEstimate.{setsFit, isSet}
 use Rattle.definitions.proofs.Bounded.{tests, and-iff, or-iff, is-iff, below-iff, upto-iff, any-iff, true-of, of-true, false-of, same-test, decide}
 use Rattle.definitions.proofs.ReadEstimate.{sets-iff}
 use Rattle.definitions.proofs.Sets.{has-none, past-iff}
-use Rattle.estimate.specs.Answers.{lastSets, wordsFit, UnionOver}
+use Rattle.estimate.specs.Blocks.{lastSets, wordsFit, UnionOver}
 
 -- ---- the union of a range of words
 
@@ -124,20 +124,31 @@ module _ (asked : ℕ) where
   last-most last e = ⊎-elim (λ p. omega (arith, p .1)) (λ q. omega arith) last-case
 
 -- word i of a block is a set exactly where it is a name's or one of the last sets
-module _ (names asked named last : ℕ) (en : named ≡ min names 62) (el : last ≡ lastSets asked) (i : ℕ) (l : i < 62) where
+module _ (names asked named last : ℕ) (en : named ≡ min names 60) (el : last ≡ lastSets asked) (i : ℕ) (l : i < 62) where
+  is-name : Bool
+  is-name = i below names and i below 60
+
   set-low : i < named → T (isSet names asked i)
-  set-low h = or-iff (i below names) (asked is 5 and 60 upto i) .1 (inl (below-iff i names .1 (omega arith)))
+  unfolding is-name
+  set-low h =
+      or-iff is-name (asked is 5 and 60 upto i) .1
+      (inl (and-iff (i below names) (i below 60) .1 (below-iff i names .1 (omega arith), below-iff i 60 .1 (omega arith))))
 
   set-high : last ≤ i → T (isSet names asked i)
+  unfolding is-name
   set-high h =
-      or-iff (i below names) (asked is 5 and 60 upto i) .1
+      or-iff is-name (asked is 5 and 60 upto i) .1
       (inr (⊎-elim (λ p. simp tests (p .0, omega (arith, p .1))) (λ q. absurd (omega arith)) (last-case asked)))
 
   set-where : T (isSet names asked i) → (i < named) ⊎ (last ≤ i)
+  unfolding is-name
   set-where t =
-      ⊎-elim (λ a. let h = below-iff i names .0 a in inl (omega arith))
+      ⊎-elim (λ a. let p = and-iff (i below names) (i below 60) .0 a in
+      let h = below-iff i names .0 (p .0) in
+      let k = below-iff i 60 .0 (p .1) in
+      inl (omega arith))
       (λ a. let p = simp tests at a in inr (omega (arith, p .1, last-five asked (p .0))))
-      (or-iff (i below names) (asked is 5 and 60 upto i) .0 t)
+      (or-iff is-name (asked is 5 and 60 upto i) .0 t)
 
   set-not : (T (isSet names asked i) → ⊥) → (named ≤ i) × (i < last)
   set-not n =
@@ -150,7 +161,7 @@ module _ (names asked named last : ℕ) (en : named ≡ min names 62) (el : last
 
 -- the names' words, the words between and the last sets are all the words
 module _ (names asked : ℕ) (block : List ℕ) (named last : ℕ) (a b c : Bool) (ea : a ≡ wordsFit names 0 named (dataWord block))
-    (eb : b ≡ wordsFit 0 named last (dataWord block)) (ec : c ≡ wordsFit names last 62 (dataWord block)) (en : named ≡ min names 62)
+    (eb : b ≡ wordsFit 0 named last (dataWord block)) (ec : c ≡ wordsFit names last 62 (dataWord block)) (en : named ≡ min names 60)
     (el : last ≡ lastSets asked) where
   ranges-fit : T a → T b → T c → T (setsFit names (isSet names asked) block)
   ranges-fit ta tb tc =

@@ -5,37 +5,21 @@ ghost use Prim.Native.Nat.{_+_, _*_, _<_, _≤_};
 ghost use lib.ListN.{length};
 ghost use Rattle.definitions.specs.Estimate.{estimateOf};
 ghost use Rattle.definitions.specs.ReadEstimate.{readEstimate};
-ghost use Rattle.estimate.specs.Answers.{answerIn};
+ghost use Rattle.refusals.specs.Answers.{answerIn};
+use refusals::Answer;
 use sets::NameNo;
 
 mod tables;
-
-// A refusal's number, and the block that it stands at.
-pub struct Refusal {
-    pub number: u8,
-    pub block: usize,
-}
-
-pub enum Answer {
-    Held,
-    Refused(Refusal),
-}
 
 // The first refusal of an estimate for so many names and boxes. It has 512 bytes, and 1024 for each box.
 pub fn read(image: &[u8], names: usize, boxes: usize) -> Answer
     ensures { λ r. ⌜ answerIn r ≡ readEstimate names boxes (now (image .entry)) ⌝ }
 {
     if image.len() % 1024 != 512 {
-        return Answer::Refused(Refusal {
-            number: 1,
-            block: 0,
-        });
+        return tables::refused(1, 0);
     }
     if image.len() / 1024 != boxes {
-        return Answer::Refused(Refusal {
-            number: 1,
-            block: 0,
-        });
+        return tables::refused(1, 0);
     }
     let f = tables::table(image, names, 0, 4, 0);
     if let Answer::Refused(_) = f {

@@ -1,19 +1,23 @@
 // The blocks of an estimate, each a table of sets: refusals 2 to 5, and their first over the boxes.
 ghost use mathlib.Core.Path.{_≡_};
+ghost use mathlib.Core.Option.{some};
 ghost use Prim.Native.Nat.{_+_, _*_, _≤_, min};
 ghost use lib.ListN.{length};
-ghost use Rattle.definitions.specs.Bounded.{_and_, _is_, firstBelow};
+ghost use Rattle.definitions.specs.Sets.{noBitPast};
+ghost use Rattle.definitions.specs.Bounded.{firstBelow};
+ghost use Rattle.definitions.specs.Answer.{refusal};
 ghost use Rattle.definitions.specs.Words.{blockOf, dataWord};
-ghost use Rattle.definitions.specs.ReadEstimate.{noBitPast, setsFit, isSet, tableFault};
-ghost use Rattle.estimate.specs.Answers.{answerIn, lastSets, wordsFit, UnionOver, twoFault};
-use crate::Answer;
-use crate::Refusal;
+ghost use Rattle.definitions.specs.ReadEstimate.{setsFit, isSet, tableFault};
+ghost use Rattle.refusals.specs.Answers.{answerIn};
+ghost use Rattle.estimate.specs.Blocks.{lastSets, wordsFit, UnionOver, boxTablesFault};
+use refusals::Answer;
+use refusals::Refusal;
 
-// The words that the names have: one each, at most a block's 62.
+// The words that the names have: one each, of words 0 to 59.
 fn name_words(names: usize) -> usize
-    ensures { λ r. ⌜ r ≡ min names 62 ⌝ }
+    ensures { λ r. ⌜ r ≡ min names 60 ⌝ }
 {
-    if names < 62 { names } else { 62 }
+    if names < 60 { names } else { 60 }
 }
 
 // Where the last sets begin: kind 5 has two, and other kinds none.
@@ -63,27 +67,13 @@ fn sets_fit(image: &[u8], names: usize, k: usize, asked: usize) -> bool
         & words_fit(image, k, last, 62, names)
 }
 
-fn heading_fits(h: blocks::inside::Heading, k: usize, asked: usize, place: usize) -> bool
-    ensures { λ r. ⌜ r ≡ (h .number is k and h .kind is asked and h .place is place and h .spare is 0) ⌝ }
-{
-    if h.number != k {
-        return false;
-    }
-    if h.kind != asked {
-        return false;
-    }
-    if h.place != place {
-        return false;
-    }
-    h.spare == 0
-}
-
-fn refused(number: u8, k: usize) -> Answer
-    ensures { λ r. ⌜ r ≡ Answer.Refused (record { number = number; block = k }) ⌝ }
+pub fn refused(number: u8, k: usize) -> Answer
+    ensures { λ r. ⌜ answerIn r ≡ some (refusal number k 0) ⌝ }
 {
     Answer::Refused(Refusal {
-        number: number,
-        block: k,
+        number,
+        place: k,
+        second: 0,
     })
 }
 
@@ -92,11 +82,11 @@ pub fn table(image: &[u8], names: usize, k: usize, asked: usize, place: usize) -
     requires { ⌜ 512 * (k + 1) ≤ length (now image) ⌝ }
     ensures { λ r. ⌜ answerIn r ≡ tableFault (now (image .entry)) names k asked place ⌝ }
 {
-    if !blocks::inside::check_holds(image, k) {
+    if !blocks::inside::check_matches(image, k) {
         return refused(2, k);
     }
     let h = blocks::inside::heading_of(image, k);
-    if !heading_fits(h, k, asked, place) {
+    if !blocks::inside::heading_matches(h, k, asked, place) {
         return refused(3, k);
     }
     if h.count != 0 {
@@ -105,13 +95,13 @@ pub fn table(image: &[u8], names: usize, k: usize, asked: usize, place: usize) -
     if !sets_fit(image, names, k, asked) {
         return refused(5, k);
     }
-    Answer::Held
+    Answer::NoRefusal
 }
 
 // Box b's two blocks.
-fn two(image: &[u8], names: usize, b: usize) -> Answer
+fn box_tables(image: &[u8], names: usize, b: usize) -> Answer
     requires { ⌜ 512 * (3 + 2 * b) ≤ length (now image) ⌝ }
-    ensures { λ r. ⌜ answerIn r ≡ twoFault (now (image .entry)) names b ⌝ }
+    ensures { λ r. ⌜ answerIn r ≡ boxTablesFault (now (image .entry)) names b ⌝ }
 {
     let f = table(image, names, 1 + 2 * b, 5, b);
     if let Answer::Refused(_) = f {
@@ -122,15 +112,15 @@ fn two(image: &[u8], names: usize, b: usize) -> Answer
 
 pub fn each_box(image: &[u8], names: usize, boxes: usize) -> Answer
     requires { ⌜ 512 * (1 + 2 * boxes) ≤ length (now image) ⌝ }
-    ensures { λ r. ⌜ answerIn r ≡ firstBelow boxes (twoFault (now (image .entry)) names) ⌝ }
+    ensures { λ r. ⌜ answerIn r ≡ firstBelow boxes (boxTablesFault (now (image .entry)) names) ⌝ }
 {
     let mut b = 0;
     while b < boxes {
-        let f = two(image, names, b);
+        let f = box_tables(image, names, b);
         if let Answer::Refused(_) = f {
             return f;
         }
         b += 1;
     }
-    Answer::Held
+    Answer::NoRefusal
 }

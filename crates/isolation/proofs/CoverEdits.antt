@@ -1,4 +1,4 @@
--- The edits of a record keep it covered: what a slot holds is covered where what was put there is. Assumes nothing.
+-- The edits of a record keep it covered: what stands in a slot is covered where what was put there is. Assumes nothing.
 use mathlib.Core.Path.{_≡_, _∙_}
 use mathlib.Core.Logic.{inl, inr, _≢_}
 use mathlib.Core.List.{List, _∷_}
@@ -16,7 +16,7 @@ use Rattle.definitions.specs.Start.{typeWords}
 use Rattle.definitions.proofs.Slots.{Apart, length-putSlot, slot-put-same, slot-put-other, word-putSlot}
 use Rattle.definitions.proofs.Arrays.{Outside, slots-frame, push-length, push-outside, push-count, push-same, push-other, take-length, take-outside, take-count, take-below, take-above}
 use Rattle.isolation.specs.Covers.{CoversThread, CoversSite, CoversRecord}
-use Rattle.isolation.proofs.TypeWords.{length-typeWords, type-each}
+use Rattle.definitions.proofs.TypeWords.{length-typeWords, type-each}
 use Rattle.isolation.proofs.KeepSite.{typeWord-is}
 
 -- ---- the live slots of an array: each has a property

@@ -10,26 +10,20 @@ use lib.ListN.{length, length-set}
 use lib.Seq.{getD-set-other}
 use Rattle.definitions.specs.Bounded.{_is_, _isnt_, _and_, anyBelow}
 use Rattle.definitions.specs.Sets.{has, meets}
-use Rattle.definitions.specs.Model.{Line, Box, Model, boxAt, boxCount, kind, boundAbove, output as opOutput, input as opInput, hide as opHide, unhide as opUnhide}
+use Rattle.definitions.specs.Model.{Line, Box, Model, boxAt, boxCount, kindOfName, boundAbove, output as opOutput, input as opInput, hide as opHide, unhide as opUnhide}
 use Rattle.definitions.specs.Estimate.{Estimate}
 use Rattle.definitions.specs.Record.{held, heldNumber, stamp, threads, sites, site, thread, subject, typeWord, line, binding, setStamp, putThread, goto, bind}
 use Rattle.definitions.specs.Start.{freeHeld}
-use Rattle.definitions.specs.Moves.{Inside, drop, spread, new, copy, expose, hide, unhide, intra, made, Ends, typesShare, valueIn, lineOf, onward, onwardWith, value1, value2, dropMove, spreadMove, newMove, copyMove, exposeMove, turnMove, intraMove, insideMove, interMove}
+use Rattle.definitions.specs.Moves.{Inside, drop, spread, new, copy, expose, hide, unhide, intra, made, Ends, typesShare, valueIn, threadLine, onward, onwardWith, value1, value2, dropMove, spreadMove, newMove, copyMove, exposeMove, turnMove, intraMove, insideMove, interMove}
 use Rattle.definitions.proofs.Bounded.{and-iff, any-iff, is-iff, isnt-iff, of-true, not-false}
 use Rattle.definitions.proofs.Sets.{meets-iff}
 use Rattle.definitions.proofs.Valid.{ValidLine, ValidReach, Valid}
-use Rattle.definitions.proofs.StateRules.{ThreadFits, thread-iff, site-iff, RecordFits}
+use Rattle.definitions.proofs.StateRules.{number-low, ThreadFits, thread-iff, site-iff, RecordFits}
 use Rattle.isolation.proofs.KeepHeld.{number-held}
 use Rattle.definitions.proofs.Made.{InterMade, drop-made, spread-made, new-made, copy-made, expose-made, turn-made, intra-made, inter-made}
 use Rattle.isolation.specs.Covers.{CoversThread, CoversSite, CoversRecord}
 use Rattle.definitions.proofs.Clauses.{LineClauses, AllClauses}
 use Rattle.isolation.proofs.CoverEdits.{goto-covered, bind-covered, turn-covered, site-length, site-covered, Covered, set-stamp, put-threads, put-sites, put-thread, take-thread, push-thread, put-site, push-site}
-
--- ---- held names
-
-pub number-low : (v : ℕ) → heldNumber v < 64
-unfolding heldNumber
-number-low v = omega arith
 
 -- ---- one box of a valid model with an accepted estimate: its record obeys the state rules and is covered
 
@@ -43,7 +37,7 @@ pub record Here (m : Model) (e : Estimate) (b : ℕ) (r : List ℕ) : Type 0 whe
 
 -- thread t's line, and the numbers of what its first and its second name stand for
 abbrev pub lineHere : Model → ℕ → List ℕ → ℕ → Line
-lineHere m b r t = lineOf (m .kinds) (boxAt m b) r t
+lineHere m b r t = threadLine (m .kinds) (boxAt m b) r t
 
 abbrev pub number1 : Model → ℕ → List ℕ → ℕ → ℕ
 number1 m b r t = heldNumber (value1 (m .kinds) (boxAt m b) r t)
@@ -53,7 +47,7 @@ number2 m b r t = heldNumber (value2 (m .kinds) (boxAt m b) r t)
 
 -- name n is free, or bound strictly above thread t's line
 abbrev InReach : Model → ℕ → List ℕ → ℕ → ℕ → Type 0
-InReach m b r t n = (kind (m .kinds) n ≡ 0) ⊎ T (boundAbove (boxAt m b) (line (thread r t)) n)
+InReach m b r t n = (kindOfName (m .kinds) n ≡ 0) ⊎ T (boundAbove (boxAt m b) (line (thread r t)) n)
 
 module _ {m : Model} {e : Estimate} {b : ℕ} {r : List ℕ} (k : Here m e b r) where
   here : Covered e b r
@@ -67,29 +61,29 @@ module _ {m : Model} {e : Estimate} {b : ℕ} {r : List ℕ} (k : Here m e b r) 
     covered = k .covers .threadsCovered t h
 
     met : LineClauses m e b (lineHere m b r t)
-    unfolding lineOf
+    unfolding threadLine
     met = k .accepted .lines b (k .box) (line (thread r t)) (fits .stands)
 
     valid : ValidLine m (lineHere m b r t)
-    unfolding lineOf
+    unfolding threadLine
     valid = k .valid .box b (k .box) .line (line (thread r t)) (fits .stands)
 
     reach : ValidReach m b (line (thread r t)) (lineHere m b r t)
-    unfolding lineOf
+    unfolding threadLine
     reach = k .valid .box b (k .box) .reach (line (thread r t)) (fits .stands)
 
     -- what a name stands for is in its rho: a free name stands for itself (clause 1), any other for what it is bound to
     value-in : (n : ℕ) → n < length (m .kinds) → InReach m b r t n → T (has (e .rho n) (heldNumber (valueIn (m .kinds) (thread r t) n)))
     unfolding valueIn
-    value-in n l = pick (kind (m .kinds) n is 0) refl
+    value-in n l = pick (kindOfName (m .kinds) n is 0) refl
       where
         low : n < 60
         low = omega (arith, k .valid .names)
 
-        pick : (c : Bool) → (kind (m .kinds) n is 0) ≡ c → InReach m b r t n
+        pick : (c : Bool) → (kindOfName (m .kinds) n is 0) ≡ c → InReach m b r t n
             → T (has (e .rho n) (heldNumber (elim c [ true ↦ freeHeld n | false ↦ binding (thread r t) n ])))
-        pick true q z = rw (number-held n 0 (omega (arith, low))) (k .accepted .names n l (is-iff (kind (m .kinds) n) 0 .0 (of-true q)))
-        pick false q (inl z) = absurd (not-false q (is-iff (kind (m .kinds) n) 0 .1 z))
+        pick true q z = rw (number-held n 0 (omega (arith, low))) (k .accepted .names n l (is-iff (kindOfName (m .kinds) n) 0 .0 (of-true q)))
+        pick false q (inl z) = absurd (not-false q (is-iff (kindOfName (m .kinds) n) 0 .1 z))
         pick false q (inr z) = covered .bindings n low (fits .bound n low z .given)
 
     value1-in : lineHere m b r t .name1 < length (m .kinds) → InReach m b r t (lineHere m b r t .name1) → T (has (e .rho (lineHere m b r t .name1)) (number1 m b r t))

@@ -12,7 +12,7 @@ use Rattle.isolation.specs.Covers.{CoversThread, CoversSite, CoversRecor
 use Rattle.definitions.proofs.Clauses.{Clause2, AllClauses}
 use Rattle.isolation.proofs.CoverEdits.{site-covered}
 use Rattle.isolation.proofs.KeepHeld.{number-held}
-use Rattle.isolation.proofs.StartFits.{start-threads, start-sites, start-site, start-thread, start-record}
+use Rattle.definitions.proofs.Start.{start-threads, start-sites, start-site, start-thread, start-record}
 
 -- clause 2: a starting site is covered; no name is bound yet
 pub start-covered : (m : Model) → Valid m → (e : Estimate) → AllClauses m e → Covers m e (startState m)
@@ -22,7 +22,7 @@ start-covered m good e acc = record { records = λ b h. rw (start-record m b (om
     unbound : (x : Box) (t : ℕ) → t < 16 → CoversThread e (thread (startRecord x) t)
     unbound x t h = rw (start-thread x t h) (record { bindings = λ n _ f. absurd (f (word-zeros 61 (1 + n))) })
 
-    site-start : (b : ℕ) (s : Site) → s .subject < length (m .kinds) → Clause2 m e b s → CoversSite e b (startSite s)
+    site-start : (b : ℕ) (s : Site) → s .subject < length (m .kinds) → Clause2 e b s → CoversSite e b (startSite s)
     site-start b s l k =
         let q = number-held (s .subject) 0 (omega (arith, good .names)) in
         site-covered e b (freeHeld (s .subject)) (s .flag) freeHeld (s .type) (rw q (k .shown)) (rw q (k .hidden)) (λ g h p. rw (q, number-held g 0 h) (k .type g h p))

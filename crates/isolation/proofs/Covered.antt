@@ -35,12 +35,12 @@ act-covered m good e acc st fit cov v w z = act-made m st (Covers m e) v w z in-
     in-box : (k : Inside) → InsideMade m st k (v .box) (v .thread) (v .thread2) w → Covers m e w
     in-box k d =
         rw (d .leaves) (put-record m e st (fit .size) (good .mostBoxes) cov (v .box) (d .box) (d .new)
-        (inside-covered (here (v .box) (d .box)) k (v .thread) (v .thread2) (d .new) (d .makes)))
+        (inside-covered (here (v .box) (d .box)) k (v .thread) (v .thread2) (d .new) (d .isMade)))
 
     between : InterActMade m st (v .box) (v .thread) (v .box2) (v .thread2) w → Covers m e w
     between d =
         let b = v .box in
-        let k = inter-covered (here b (d .box)) (here (v .box2) (d .box2)) (d .differ) (v .thread) (d .live) (v .thread2) (d .live2) (d .ends) (d .makes) in
+        let k = inter-covered (here b (d .box)) (here (v .box2) (d .box2)) (d .differ) (v .thread) (d .live) (v .thread2) (d .live2) (d .ends) (d .isMade) in
         rw (d .leaves) (put-record m e (putRecord st b (d .ends .input))
         (length-putSlot 0 1139 8 st (omega (arith, fit .size)) b (omega (arith, d .box, good .mostBoxes)) (d .ends .input) (k .0 .size) ∙ fit .size) (good .mostBoxes)
         (put-record m e st (fit .size) (good .mostBoxes) cov b (d .box) (d .ends .input) (k .0)) (v .box2) (d .box2) (d .ends .output) (k .1))

@@ -11,10 +11,10 @@ use lib.ListN.{length}
 use Rattle.definitions.specs.Bounded.{_and_, _or_, _isnt_, _below_}
 use Rattle.definitions.specs.Model.{Model, boxAt, boxCount}
 use Rattle.definitions.specs.Record.{threads, stateLength, recordOf, putRecord}
-use Rattle.definitions.specs.Moves.{Inside, Kind, inside, inter, unknown, kindOfMove, Move, Outcome, refused, made, Ends, need, onMade, insideMove, interMove, insideAct, interAct, act}
-use Rattle.definitions.specs.Calls.{outcomeNumber, outcomeWords, Ran, makes}
+use Rattle.definitions.specs.Moves.{Inside, Kind, inside, inter, unknown, kindOfMove, Move, Outcome, refused, made, Ends, need, onMade, insideMove, interMove, insideAct, interAct, actAs, act}
+use Rattle.definitions.specs.Calls.{outcomeNumber, outcomeWords, MovesResult, actAll}
 use Rattle.definitions.proofs.Bounded.{tests, same-test}
-use Rattle.isolation.specs.Group.{namesGroup, struckBy, leftBy}
+use Rattle.isolation.specs.Group.{namesAs, names, struck, answersLeft, EqualOutside}
 use Rattle.isolation.proofs.KeepState.{put-record-same, put-record-other, put-record-length}
 use Rattle.definitions.proofs.Made.{refused-made, inside-act, inter-act}
 
@@ -22,12 +22,6 @@ module _ (group : ℕ → Bool) where
   -- two states have the same records outside the group
   abbrev pub SameOutside : List ℕ → List ℕ → Type 0
   SameOutside st₁ st₂ = (b : ℕ) → b < 8 → group b ≡ false → recordOf st₁ b ≡ recordOf st₂ b
-
-  -- two models have the same names, as many boxes, and the same boxes outside the group
-  pub record EqualOutside (m₁ m₂ : Model) : Type 0 where
-    pub kinds : m₁ .kinds ≡ m₂ .kinds
-    pub count : boxCount m₁ ≡ boxCount m₂
-    pub others : (b : ℕ) → b < boxCount m₁ → group b ≡ false → boxAt m₁ b ≡ boxAt m₂ b
 
 -- what is known of each state that is reached in a model: its length; that made moves leave records of 1,139 words; that an inter move
 -- between the group and the rest is not made; and that a made move leads to such a state again
@@ -66,33 +60,33 @@ module _ (group : ℕ → Bool) (m : Model) (Good : List ℕ → Type 0) (reache
   put-inside : (b : ℕ) → b < 8 → group b ≡ true → (s : List ℕ) → length s ≡ stateLength → (r : List ℕ) → length r ≡ 1139 → SameOutside group (putRecord s b r) s
   put-inside b h g s l r e c k o = put-record-other s l b h r e c k (λ q. true-false (ap group q ∙ g) o)
 
-  made-inside : (v : Move) (w : List ℕ) → namesGroup group v ≡ true → act m st v ≡ made w → SameOutside group w st
-  unfolding namesGroup act
+  made-inside : (v : Move) (w : List ℕ) → names group v ≡ true → act m st v ≡ made w → SameOutside group w st
+  unfolding names namesAs act actAs
   made-inside v w n e = go (kindOfMove (v .kind)) n e
     where
       go : (k : Kind)
-          → elim k [ inside i ↦ group (v .box) | inter ↦ group (v .box) or group (v .box2) | unknown ↦ false ] ≡ true
-          → elim k [ inside i ↦ insideAct m st i (v .box) (v .thread) (v .thread2) | inter ↦ interAct m st (v .box) (v .thread) (v .box2) (v .thread2) | unknown ↦ refused 12 ] ≡ made w
+          → namesAs group k v ≡ true
+          → actAs m st k v ≡ made w
           → SameOutside group w st
       go (inside i) g z c k o =
           let x = inside-act m st i (v .box) (v .thread) (v .thread2) w z in
           let d : v .box < 8 = omega (arith, x .box, reached .most) in
           ap (λ (y : List ℕ). recordOf y c) (x .leaves)
-          ∙ put-inside (v .box) d g st (reached .size st good) (x .new) (reached .insideSize st good i (v .box) (v .thread) (v .thread2) (x .new) (x .box) (x .makes)) c k o
+          ∙ put-inside (v .box) d g st (reached .size st good) (x .new) (reached .insideSize st good i (v .box) (v .thread) (v .thread2) (x .new) (x .box) (x .isMade)) c k o
       go inter g z c k o =
           let x = inter-act m st (v .box) (v .thread) (v .box2) (v .thread2) w z in
           let d : v .box < 8 = omega (arith, x .box, reached .most) in
           let d2 : v .box2 < 8 = omega (arith, x .box2, reached .most) in
           let q = reached .apart st good (v .box) (v .thread) (v .box2) (v .thread2) w z in
           let a : group (v .box) ≡ true = both (group (v .box)) (group (v .box2)) q g in
-          let s = reached .interSize st good (v .box) (v .thread) (v .box2) (v .thread2) (x .ends) (x .box) (x .box2) (x .live) (x .live2) (x .makes) in
+          let s = reached .interSize st good (v .box) (v .thread) (v .box2) (v .thread2) (x .ends) (x .box) (x .box2) (x .live) (x .live2) (x .isMade) in
           let l = reached .size st good in
           ap (λ (y : List ℕ). recordOf y c) (x .leaves)
           ∙ put-inside (v .box2) d2 (sym q ∙ a) (putRecord st (v .box) (x .ends .input)) (put-record-length st l (v .box) d (x .ends .input) (s .0)) (x .ends .output) (s .1) c k o
           ∙ put-inside (v .box) d a st l (x .ends .input) (s .0) c k o
       go unknown g z c k o = absurd (refused-made z)
 
-  pub act-inside : (v : Move) → namesGroup group v ≡ true → SameOutside group (outcomeWords st (act m st v)) st
+  pub act-inside : (v : Move) → names group v ≡ true → SameOutside group (outcomeWords st (act m st v)) st
   act-inside v n = go (act m st v) refl
     where
       go : (o : Outcome (List ℕ)) → act m st v ≡ o → SameOutside group (outcomeWords st o) st
@@ -189,23 +183,23 @@ module _ (group : ℕ → Bool) (m₁ m₂ : Model) (equal : EqualOutside group 
       (put-both group st₁ st₂ l₁ l₂ same b (low b i) (e .input) (k .0)) c (low c j) (e .output) (k .1))))
 
   -- P6, the second half
-  pub act-alike : (v : Move) → namesGroup group v ≡ false → Alike group st₁ st₂ (act m₁ st₁ v) (act m₂ st₂ v)
-  unfolding namesGroup act
+  pub act-alike : (v : Move) → names group v ≡ false → Alike group st₁ st₂ (act m₁ st₁ v) (act m₂ st₂ v)
+  unfolding names namesAs act actAs
   act-alike v n = go (kindOfMove (v .kind)) n
     where
       go : (k : Kind)
-          → elim k [ inside i ↦ group (v .box) | inter ↦ group (v .box) or group (v .box2) | unknown ↦ false ] ≡ false
+          → namesAs group k v ≡ false
           → Alike group st₁ st₂
-          (elim k [ inside i ↦ insideAct m₁ st₁ i (v .box) (v .thread) (v .thread2) | inter ↦ interAct m₁ st₁ (v .box) (v .thread) (v .box2) (v .thread2) | unknown ↦ refused 12 ])
-          (elim k [ inside i ↦ insideAct m₂ st₂ i (v .box) (v .thread) (v .thread2) | inter ↦ interAct m₂ st₂ (v .box) (v .thread) (v .box2) (v .thread2) | unknown ↦ refused 12 ])
+          (actAs m₁ st₁ k v)
+          (actAs m₂ st₂ k v)
       go (inside i) g = inside-alike i (v .box) (v .thread) (v .thread2) g
       go inter g = let d = neither (group (v .box)) (group (v .box2)) g in inter-alike (v .box) (v .thread) (v .box2) (v .thread2) (d .0) (d .1)
       go unknown g = record { number = refl; words = same }
 
 -- ---- P7: a list in one model, and the list struck in the other
 
-pub record AlikeRuns (group : ℕ → Bool) (vs : List Move) (r₁ r₂ : Ran) : Type 0 where
-  pub answers : leftBy group vs (r₁ .answers) ≡ r₂ .answers
+pub record AlikeRuns (group : ℕ → Bool) (vs : List Move) (r₁ r₂ : MovesResult) : Type 0 where
+  pub answers : answersLeft group vs (r₁ .answers) ≡ r₂ .answers
   pub words : SameOutside group (r₁ .words) (r₂ .words)
 
 pub outcome-good : (m : Model) (Good : List ℕ → Type 0) (st : List ℕ) → Good st → (v : Move)
@@ -216,39 +210,39 @@ outcome-good m Good st good v next = go (act m st v) refl
     go (refused n) e = good
     go (made w) e = next w e
 
-struck-none : (group : ℕ → Bool) → struckBy group [] ≡ []
-unfolding struckBy
+struck-none : (group : ℕ → Bool) → struck group [] ≡ []
+unfolding struck
 struck-none group = refl
 
-left-none : (group : ℕ → Bool) (l : List ℕ) → leftBy group [] l ≡ []
-unfolding leftBy
+left-none : (group : ℕ → Bool) (l : List ℕ) → answersLeft group [] l ≡ []
+unfolding answersLeft
 left-none group l = refl
 
 -- the first move of a list, struck out or left
 module _ (group : ℕ → Bool) (v : Move) (vs : List Move) where
-  struck-named : namesGroup group v ≡ true → struckBy group (v ∷ vs) ≡ struckBy group vs
-  unfolding struckBy
-  struck-named e = ap (λ (b : Bool). elim b as (λ _. List Move) [ true ↦ struckBy group vs | false ↦ v ∷ struckBy group vs ]) e
+  struck-named : names group v ≡ true → struck group (v ∷ vs) ≡ struck group vs
+  unfolding struck
+  struck-named e = ap (λ (b : Bool). elim b as (λ _. List Move) [ true ↦ struck group vs | false ↦ v ∷ struck group vs ]) e
 
-  struck-left : namesGroup group v ≡ false → struckBy group (v ∷ vs) ≡ v ∷ struckBy group vs
-  unfolding struckBy
-  struck-left e = ap (λ (b : Bool). elim b as (λ _. List Move) [ true ↦ struckBy group vs | false ↦ v ∷ struckBy group vs ]) e
+  struck-left : names group v ≡ false → struck group (v ∷ vs) ≡ v ∷ struck group vs
+  unfolding struck
+  struck-left e = ap (λ (b : Bool). elim b as (λ _. List Move) [ true ↦ struck group vs | false ↦ v ∷ struck group vs ]) e
 
-  left-named : (a : ℕ) (l : List ℕ) → namesGroup group v ≡ true → leftBy group (v ∷ vs) (a ∷ l) ≡ leftBy group vs l
-  unfolding leftBy
-  left-named a l e = ap (λ (b : Bool). elim b as (λ _. List ℕ) [ true ↦ leftBy group vs l | false ↦ a ∷ leftBy group vs l ]) e
+  left-named : (a : ℕ) (l : List ℕ) → names group v ≡ true → answersLeft group (v ∷ vs) (a ∷ l) ≡ answersLeft group vs l
+  unfolding answersLeft
+  left-named a l e = ap (λ (b : Bool). elim b as (λ _. List ℕ) [ true ↦ answersLeft group vs l | false ↦ a ∷ answersLeft group vs l ]) e
 
-  left-left : (a : ℕ) (l : List ℕ) → namesGroup group v ≡ false → leftBy group (v ∷ vs) (a ∷ l) ≡ a ∷ leftBy group vs l
-  unfolding leftBy
-  left-left a l e = ap (λ (b : Bool). elim b as (λ _. List ℕ) [ true ↦ leftBy group vs l | false ↦ a ∷ leftBy group vs l ]) e
+  left-left : (a : ℕ) (l : List ℕ) → names group v ≡ false → answersLeft group (v ∷ vs) (a ∷ l) ≡ a ∷ answersLeft group vs l
+  unfolding answersLeft
+  left-left a l e = ap (λ (b : Bool). elim b as (λ _. List ℕ) [ true ↦ answersLeft group vs l | false ↦ a ∷ answersLeft group vs l ]) e
 
 module _ (group : ℕ → Bool) (m₁ m₂ : Model) (equal : EqualOutside group m₁ m₂)
     (Good₁ Good₂ : List ℕ → Type 0) (reached₁ : Reached group m₁ Good₁) (reached₂ : Reached group m₂ Good₂) where
   pub struck-alike : (vs : List Move) (st₁ st₂ : List ℕ) → Good₁ st₁ → Good₂ st₂ → SameOutside group st₁ st₂
-      → AlikeRuns group vs (makes m₁ st₁ vs) (makes m₂ st₂ (struckBy group vs))
-  unfolding makes
+      → AlikeRuns group vs (actAll m₁ st₁ vs) (actAll m₂ st₂ (struck group vs))
+  unfolding actAll
   struck-alike [] st₁ st₂ g₁ g₂ same = rw (struck-none group) (record { answers = left-none group []; words = same })
-  struck-alike (v ∷ vs) st₁ st₂ g₁ g₂ same = go (namesGroup group v) refl (struck-alike vs)
+  struck-alike (v ∷ vs) st₁ st₂ g₁ g₂ same = go (names group v) refl (struck-alike vs)
     where
       w₁ : List ℕ
       w₁ = outcomeWords st₁ (act m₁ st₁ v)
@@ -262,9 +256,9 @@ module _ (group : ℕ → Bool) (m₁ m₂ : Model) (equal : EqualOutside group 
       good₂ : Good₂ w₂
       good₂ = outcome-good m₂ Good₂ st₂ g₂ v (reached₂ .next st₂ g₂ v)
 
-      go : (b : Bool) → namesGroup group v ≡ b
-          → ((s₁ s₂ : List ℕ) → Good₁ s₁ → Good₂ s₂ → SameOutside group s₁ s₂ → AlikeRuns group vs (makes m₁ s₁ vs) (makes m₂ s₂ (struckBy group vs)))
-          → AlikeRuns group (v ∷ vs) (makes m₁ st₁ (v ∷ vs)) (makes m₂ st₂ (struckBy group (v ∷ vs)))
+      go : (b : Bool) → names group v ≡ b
+          → ((s₁ s₂ : List ℕ) → Good₁ s₁ → Good₂ s₂ → SameOutside group s₁ s₂ → AlikeRuns group vs (actAll m₁ s₁ vs) (actAll m₂ s₂ (struck group vs)))
+          → AlikeRuns group (v ∷ vs) (actAll m₁ st₁ (v ∷ vs)) (actAll m₂ st₂ (struck group (v ∷ vs)))
       go true e rest =
           let k = rest w₁ st₂ good₁ g₂ (λ b h o. act-inside group m₁ Good₁ reached₁ st₁ g₁ v e b h o ∙ same b h o) in
           rw (struck-named group v vs e) (record { answers = left-named group v vs _ _ e ∙ k .answers; words = k .words })

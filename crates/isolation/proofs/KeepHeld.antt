@@ -13,10 +13,10 @@ use lib.Dec.{T}
 use lib.ListN.{length, length-set}
 use lib.Seq.{getD-set-same, getD-set-other}
 use Rattle.definitions.specs.Bounded.{_and_, _or_, _is_}
-use Rattle.definitions.specs.Model.{Line, Box, Model, lineCount, kind, restriction, input, expose, binds, boundAbove, owner}
+use Rattle.definitions.specs.Model.{Line, Box, Model, lineCount, kindOfName, restriction, input, expose, binds, boundAbove, owner}
 use Rattle.definitions.specs.Record.{held, heldNumber, heldStamp, subject, typeWord, line, binding, goto, bind}
 use Rattle.definitions.specs.Start.{freeHeld}
-use Rattle.definitions.specs.StateRules.{siteHeld, threadHeld}
+use Rattle.definitions.specs.StateRules.{siteWordsFit, threadWordsFit}
 use Rattle.definitions.specs.Moves.{valueIn}
 use Rattle.definitions.proofs.Bounded.{is-iff, decide, true-of, false-of}
 use Rattle.definitions.proofs.Sets.{or-false}
@@ -38,17 +38,17 @@ held-given n s = omega arith
 
 module _ (m : Model) (last : ℕ → ℕ) where
   -- stamp 0 for a free name, 1 up to its box's last stamp for a made one
-  pub held-fits : (n s : ℕ) → n < 64 → n < length (m .kinds) → kind (m .kinds) n ≢ 2 → (kind (m .kinds) n ≡ 0 → s ≡ 0)
-      → (kind (m .kinds) n ≢ 0 → (b : ℕ) × (owner m n ≡ some b) × (1 ≤ s) × (s ≤ last b)) → HeldFits m last (held n s)
+  pub held-fits : (n s : ℕ) → n < 64 → n < length (m .kinds) → kindOfName (m .kinds) n ≢ 2 → (kindOfName (m .kinds) n ≡ 0 → s ≡ 0)
+      → (kindOfName (m .kinds) n ≢ 0 → (b : ℕ) × (owner m n ≡ some b) × (1 ≤ s) × (s ≤ last b)) → HeldFits m last (held n s)
   held-fits n s h l k f g =
       let e = number-held n s h in
       let d = stamp-held n s h in
       record { given = held-given n s; listed = rw e l; notReceived = rw e k; free = rw (e, d) f; made = rw (e, d) g }
 
-  pub free-fits : (n : ℕ) → n < 64 → n < length (m .kinds) → kind (m .kinds) n ≡ 0 → HeldFits m last (freeHeld n)
+  pub free-fits : (n : ℕ) → n < 64 → n < length (m .kinds) → kindOfName (m .kinds) n ≡ 0 → HeldFits m last (freeHeld n)
   free-fits n h l k = held-fits n 0 h l (omega arith) (λ _. refl) (λ f. absurd (f k))
 
-  pub made-fits : (n s b : ℕ) → n < 64 → n < length (m .kinds) → kind (m .kinds) n ≢ 2 → kind (m .kinds) n ≢ 0 → owner m n ≡ some b
+  pub made-fits : (n s b : ℕ) → n < 64 → n < length (m .kinds) → kindOfName (m .kinds) n ≢ 2 → kindOfName (m .kinds) n ≢ 0 → owner m n ≡ some b
       → 1 ≤ s → s ≤ last b → HeldFits m last (held n s)
   made-fits n s b h l k z o p q = held-fits n s h l k (λ e. absurd (z e)) (λ _. (b, o, p, q))
 
@@ -64,7 +64,7 @@ module _ (m : Model) (last next : ℕ → ℕ) (up : (b : ℕ) → last b ≤ ne
     made = λ e. let x = h .made e in (x .0, x .1, x .2, le-trans (x .3) (up (x .0)));
   }
 
-  pub site-up : (x : List ℕ) → T (siteHeld m last x) → T (siteHeld m next x)
+  pub site-up : (x : List ℕ) → T (siteWordsFit m last x) → T (siteWordsFit m next x)
   site-up x t =
       let s = site-iff m last x .0 t in
       site-iff m next x .1 (record {
@@ -86,7 +86,7 @@ module _ (m : Model) (last next : ℕ → ℕ) (up : (b : ℕ) → last b ≤ ne
     unbound = s .unbound;
   }
 
-  pub thread-up : (x : Box) (y : List ℕ) → T (threadHeld m last x y) → T (threadHeld m next x y)
+  pub thread-up : (x : Box) (y : List ℕ) → T (threadWordsFit m last x y) → T (threadWordsFit m next x y)
   thread-up x y t = thread-iff m next x y .1 (threadFits-up x y (thread-iff m last x y .0 t))
 
 -- ---- what a line binds
@@ -116,16 +116,16 @@ binds-input l e n = rw e
 
 module _ (m : Model) (last : ℕ → ℕ) (x : Box) (y : List ℕ) (s : ThreadFits m last x y) where
   -- a free name holds itself; any other that is bound above the line has a binding
-  pub value-fits : length (m .kinds) ≤ 60 → (n : ℕ) → n < length (m .kinds) → (kind (m .kinds) n ≡ 0) ⊎ T (boundAbove x (line y) n)
+  pub value-fits : length (m .kinds) ≤ 60 → (n : ℕ) → n < length (m .kinds) → (kindOfName (m .kinds) n ≡ 0) ⊎ T (boundAbove x (line y) n)
       → HeldFits m last (valueIn (m .kinds) y n)
   unfolding valueIn
-  value-fits most n h reach = pick (decide (kind (m .kinds) n is 0)) reach
+  value-fits most n h reach = pick (decide (kindOfName (m .kinds) n is 0)) reach
     where
-      pick : T (kind (m .kinds) n is 0) ⊎ (T (kind (m .kinds) n is 0) → ⊥) → (kind (m .kinds) n ≡ 0) ⊎ T (boundAbove x (line y) n)
-          → HeldFits m last (elim (kind (m .kinds) n is 0) [ true ↦ freeHeld n | false ↦ binding y n ])
-      pick (inl t) o = rw (true-of (kind (m .kinds) n is 0) t) (free-fits m last n (omega arith) h (is-iff (kind (m .kinds) n) 0 .0 t))
-      pick (inr f) (inl e) = absurd (f (is-iff (kind (m .kinds) n) 0 .1 e))
-      pick (inr f) (inr b) = rw (false-of (kind (m .kinds) n is 0) f) (s .bound n (omega arith) b)
+      pick : T (kindOfName (m .kinds) n is 0) ⊎ (T (kindOfName (m .kinds) n is 0) → ⊥) → (kindOfName (m .kinds) n ≡ 0) ⊎ T (boundAbove x (line y) n)
+          → HeldFits m last (elim (kindOfName (m .kinds) n is 0) [ true ↦ freeHeld n | false ↦ binding y n ])
+      pick (inl t) o = rw (true-of (kindOfName (m .kinds) n is 0) t) (free-fits m last n (omega arith) h (is-iff (kindOfName (m .kinds) n) 0 .0 t))
+      pick (inr f) (inl e) = absurd (f (is-iff (kindOfName (m .kinds) n) 0 .1 e))
+      pick (inr f) (inr b) = rw (false-of (kindOfName (m .kinds) n is 0) f) (s .bound n (omega arith) b)
 
   -- a thread goes on to a line above which the same is bound
   pub goto-fits : (l : ℕ) → l < lineCount x → ((n : ℕ) → boundAbove x l n ≡ boundAbove x (line y) n) → ThreadFits m last x (goto y l)

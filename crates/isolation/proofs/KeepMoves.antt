@@ -12,22 +12,22 @@ use lib.ListN.{length, length-set}
 use lib.Seq.{getD-set-other}
 use Rattle.definitions.specs.Bounded.{_or_, _is_}
 use Rattle.definitions.specs.Sets.{has}
-use Rattle.definitions.specs.Model.{Line, Model, boxAt, boxCount, kind, nil, parallel, replication, restriction, output as opOutput, input as opInput, expose as opExpose, hide as opHide, unhide as opUnhide, binds, boundAbove, owner}
+use Rattle.definitions.specs.Model.{Line, Model, boxAt, boxCount, kindOfName, nil, parallel, replication, restriction, output as opOutput, input as opInput, expose as opExpose, hide as opHide, unhide as opUnhide, binds, boundAbove, owner}
 use Rattle.definitions.specs.Record.{held, stampLimit, stamp, threads, sites, site, thread, subject, line, setStamp, putThread, pushThread, takeThread, putSite, pushSite, setFlag, goto, bind}
 use Rattle.definitions.specs.Start.{typeWords}
-use Rattle.definitions.specs.Moves.{Inside, drop, spread, new, copy, expose, hide, unhide, intra, made, valueIn, lineOf, onward, onwardWith, value2, insideMove}
+use Rattle.definitions.specs.Moves.{Inside, drop, spread, new, copy, expose, hide, unhide, intra, made, valueIn, threadLine, onward, onwardWith, value2, insideMove}
 use Rattle.definitions.proofs.Bounded.{is-iff, of-true, true-of}
 use Rattle.definitions.proofs.Valid.{Valid, ValidLine, ValidTree, ValidReach}
 use Rattle.definitions.proofs.StateRules.{HeldFits, ThreadFits, RecordFits, site-iff, thread-iff}
 use Rattle.definitions.proofs.Made.{SiteFound, IntraMade, drop-made, spread-made, new-made, copy-made, expose-made, turn-made, intra-made}
 use Rattle.isolation.proofs.KeepHeld.{number-held, stamp-held, held-up, made-fits, binds-none, binds-restriction, binds-expose, binds-input, value-fits, goto-fits, bind-fits}
-use Rattle.isolation.proofs.TypeWords.{length-typeWords}
+use Rattle.definitions.proofs.TypeWords.{length-typeWords}
 use Rattle.isolation.proofs.KeepSite.{site-fits, turned-fits}
 use Rattle.isolation.proofs.KeepRecord.{put-thread-length, put-thread-word, put-thread-site, set-stamp-length, set-stamp-same, set-stamp-word, set-stamp-site, put-thread-keeps, push-thread-keeps, push-thread-stamp, take-thread-keeps, take-thread-stamp, push-site-keeps, push-site-stamp, push-site-length, put-site-keeps, put-site-stamp, record-up, set-stamp-keeps}
 
 -- the line at which thread t of box b's record stands
 abbrev lineFor : Model → ℕ → List ℕ → ℕ → Line
-lineFor m b r t = lineOf (m .kinds) (boxAt m b) r t
+lineFor m b r t = threadLine (m .kinds) (boxAt m b) r t
 
 -- the record s of box b, in place of r: its stamp has not gone down, and it is in order once its stamp is counted
 pub record Kept (m : Model) (last : ℕ → ℕ) (b : ℕ) (r s : List ℕ) : Type 0 where
@@ -54,15 +54,15 @@ module _ (m : Model) (valid : Valid m) (b : ℕ) (hb : b < boxCount m) (last : �
     here = thread-iff m last (boxAt m b) (thread r t) .0 (k .threadsFit .live t h)
 
     line-valid : ValidLine m (lineFor m b r t)
-    unfolding lineOf
+    unfolding threadLine
     line-valid = valid .box b hb .line (line (thread r t)) (here .stands)
 
     line-tree : ValidTree (boxAt m b) (line (thread r t)) (lineFor m b r t)
-    unfolding lineOf
+    unfolding threadLine
     line-tree = valid .box b hb .tree (line (thread r t)) (here .stands)
 
     line-reach : ValidReach m b (line (thread r t)) (lineFor m b r t)
-    unfolding lineOf
+    unfolding threadLine
     line-reach = valid .box b hb .reach (line (thread r t)) (here .stands)
 
     -- a line that binds nothing: its children stand below what the line stands below
@@ -97,7 +97,7 @@ module _ (m : Model) (valid : Valid m) (b : ℕ) (hb : b < boxCount m) (last : �
         value-fits m last (boxAt m b) (thread r t) here (valid .names) (lineFor m b r t .name2) (line-valid .sentListed e) (line-reach .outputSent e)
 
     -- the names of an expose's type
-    type-fits : lineFor m b r t .op ≡ opExpose → (n : ℕ) → n < 64 → T (has (lineFor m b r t .type) n)
+    pub type-fits : lineFor m b r t .op ≡ opExpose → (n : ℕ) → n < 64 → T (has (lineFor m b r t .type) n)
         → HeldFits m last (valueIn (m .kinds) (thread r t) n)
     type-fits e n l i =
         value-fits m last (boxAt m b) (thread r t) here (valid .names) n (line-valid .exposeType e n l i) (line-reach .exposeReach e n l i)
@@ -177,21 +177,21 @@ module _ (m : Model) (valid : Valid m) (b : ℕ) (hb : b < boxCount m) (last : �
 
 -- ---- a new stamp
 
--- a line that makes a name: it binds a listed name of kind 1 or 3, and only that
+-- a line that made-name a name: it binds a listed name of kind 1 or 3, and only that
 record Makes (m : Model) (l : Line) : Type 0 where
   goesOn : l .op ≢ nil
   listed : l .name1 < length (m .kinds)
-  notReceived : kind (m .kinds) (l .name1) ≢ 2
-  notFree : kind (m .kinds) (l .name1) ≢ 0
+  notReceived : kindOfName (m .kinds) (l .name1) ≢ 2
+  notFree : kindOfName (m .kinds) (l .name1) ≢ 0
   only : (n : ℕ) → binds l n ≡ (l .name1 is n)
 
-restriction-makes : (m : Model) (l : Line) → ValidLine m l → l .op ≡ restriction → Makes m l
-restriction-makes m l v e =
+restriction-acts : (m : Model) (l : Line) → ValidLine m l → l .op ≡ restriction → Makes m l
+restriction-acts m l v e =
     let k = v .restrictKind e in
     record { goesOn = omega arith; listed = v .restrictListed e; notReceived = omega arith; notFree = omega arith; only = binds-restriction l e }
 
-expose-makes : (m : Model) (l : Line) → ValidLine m l → l .op ≡ opExpose → Makes m l
-expose-makes m l v e =
+expose-acts : (m : Model) (l : Line) → ValidLine m l → l .op ≡ opExpose → Makes m l
+expose-acts m l v e =
     let k = v .exposeKind e in
     record { goesOn = omega arith; listed = v .exposeListed e; notReceived = omega arith; notFree = omega arith; only = binds-expose l e }
 
@@ -237,20 +237,20 @@ module _ (m : Model) (valid : Valid m) (b : ℕ) (hb : b < boxCount m) (last : �
       put-thread-site (setStamp r (stamp r + 1)) next-length t t16 (goneOn m b r t) goneOn-length i l
       ∙ set-stamp-site r (k .size) (stamp r + 1) i l
 
-  module _ (makes : Makes m (lineFor m b r t)) where
+  module _ (made-name : Makes m (lineFor m b r t)) where
     made64 : lineFor m b r t .name1 < 64
-    made64 = omega (arith, valid .names, makes .listed)
+    made64 = omega (arith, valid .names, made-name .listed)
 
     made-owned : owner m (lineFor m b r t .name1) ≡ some b
     made-owned =
         let n = lineFor m b r t .name1 in
-        line-reach m valid b hb last r k t h .owned n (of-true (makes .only n ∙ true-of (n is n) (is-iff n n .1 refl)))
+        line-reach m valid b hb last r k t h .owned n (of-true (made-name .only n ∙ true-of (n is n) (is-iff n n .1 refl)))
 
     -- under stamps that count the new one
     module _ (next : ℕ → ℕ) (up : (c : ℕ) → last c ≤ next c) (counted : next b ≡ stamp r + 1) where
       new-fits : HeldFits m next (newHeld m b r t)
       new-fits =
-          made-fits m next (lineFor m b r t .name1) (stamp r + 1) b made64 (makes .listed) (makes .notReceived) (makes .notFree) made-owned (omega arith)
+          made-fits m next (lineFor m b r t .name1) (stamp r + 1) b made64 (made-name .listed) (made-name .notReceived) (made-name .notFree) made-owned (omega arith)
           (omega arith)
 
       stamped-fits : stamp r < stampLimit → RecordFits m next (boxAt m b) (stamped m b r t)
@@ -258,32 +258,32 @@ module _ (m : Model) (valid : Valid m) (b : ℕ) (hb : b < boxCount m) (last : �
           let k1 = record-up m last (boxAt m b) r k next up in
           put-thread-keeps m next (boxAt m b) (setStamp r (stamp r + 1)) (set-stamp-keeps m next (boxAt m b) r k1 (stamp r + 1) (omega arith)) t
           (rw (set-stamp-word r (k .size) (stamp r + 1) 1 (omega arith)) h) (goneOn m b r t)
-          (onwardWith-fits m valid b hb next r k1 t h (lineFor m b r t .name1) (newHeld m b r t) (makes .goesOn) (makes .only) (makes .listed) new-fits)
+          (onwardWith-fits m valid b hb next r k1 t h (lineFor m b r t .name1) (newHeld m b r t) (made-name .goesOn) (made-name .only) (made-name .listed) new-fits)
 
     -- a site's subject has a stamp up to the box's last one, so none is the new name
     fresh : last b ≡ stamp r → (i : ℕ) → i < sites r → subject (site r i) ≢ newHeld m b r t
     fresh e i l q =
         let n = lineFor m b r t .name1 in
         let f = subst (HeldFits m last) q (site-iff m last (site r i) .0 (k .sitesFit .live i l) .subjectFits) in
-        let x = (rw (number-held n (stamp r + 1) made64, stamp-held n (stamp r + 1) made64) at (f .made)) (makes .notFree) in
+        let x = (rw (number-held n (stamp r + 1) made64, stamp-held n (stamp r + 1) made64) at (f .made)) (made-name .notFree) in
         let c : x .0 ≡ b = cc (x .1, made-owned) in
         let most : stamp r + 1 ≤ last b = subst (λ (j : ℕ). stamp r + 1 ≤ last j) c (x .3) in
         omega arith
 
   new-kept : stamp r < stampLimit → lineFor m b r t .op ≡ restriction → Kept m last b r (stamped m b r t)
   new-kept room e =
-      let makes = restriction-makes m (lineFor m b r t) (line-valid m valid b hb last r k t h) e in
+      let made-name = restriction-acts m (lineFor m b r t) (line-valid m valid b hb last r k t h) e in
       record {
         size = stamped-length;
         grows = rw stamped-stamp (omega arith);
-        fits = λ next up q. stamped-fits makes next up (q ∙ stamped-stamp) room;
+        fits = λ next up q. stamped-fits made-name next up (q ∙ stamped-stamp) room;
       }
 
   expose-kept : last b ≡ stamp r → sites r < 16 → stamp r < stampLimit → lineFor m b r t .op ≡ opExpose
       → Kept m last b r (pushSite (stamped m b r t) (newHeld m b r t ∷ 0 ∷ typeWords (valueIn (m .kinds) (thread r t)) (lineFor m b r t .type)))
   expose-kept counted more room e =
       let good = line-valid m valid b hb last r k t h in
-      let makes = expose-makes m (lineFor m b r t) good e in
+      let made-name = expose-acts m (lineFor m b r t) good e in
       let hold = valueIn (m .kinds) (thread r t) in
       let s = stamped m b r t in
       let y = newHeld m b r t ∷ 0 ∷ typeWords hold (lineFor m b r t .type) in
@@ -294,11 +294,11 @@ module _ (m : Model) (valid : Valid m) (b : ℕ) (hb : b < boxCount m) (last : �
         size = push-site-length s stamped-length more-sites y y-length;
         grows = rw stamp-is (omega arith);
         fits = λ next up q.
-            push-site-keeps m next (boxAt m b) s (stamped-fits makes next up (q ∙ stamp-is) room) more-sites y
-            (site-fits m next (newHeld m b r t) 0 hold (lineFor m b r t .type) (new-fits makes next up (q ∙ stamp-is))
-            (inr (rw (number-held (lineFor m b r t .name1) (stamp r + 1) (made64 makes)) (good .exposeKind e))) (omega arith) (good .exposeSize e)
+            push-site-keeps m next (boxAt m b) s (stamped-fits made-name next up (q ∙ stamp-is) room) more-sites y
+            (site-fits m next (newHeld m b r t) 0 hold (lineFor m b r t .type) (new-fits made-name next up (q ∙ stamp-is))
+            (inr (rw (number-held (lineFor m b r t .name1) (stamp r + 1) (made64 made-name)) (good .exposeKind e))) (omega arith) (good .exposeSize e)
             (λ i l j. held-up m last next up (hold i) (type-fits m valid b hb last r k t h e i l j)))
-            (λ i l. rw (stamped-site i (omega arith)) (fresh makes counted i (omega (arith, stamped-sites))));
+            (λ i l. rw (stamped-site i (omega arith)) (fresh made-name counted i (omega (arith, stamped-sites))));
       }
 
 -- ---- every move inside a box

@@ -10,7 +10,7 @@ use lib.Seq.{getD-set-same, getD-set-other}
 use Rattle.definitions.specs.Slots.{word}
 use Rattle.definitions.specs.Model.{Box, Model}
 use Rattle.definitions.specs.Record.{stampLimit, stamp, threads, sites, site, thread, subject, setStamp, putThread, pushThread, takeThread, putSite, pushSite}
-use Rattle.definitions.specs.StateRules.{siteHeld, threadHeld}
+use Rattle.definitions.specs.StateRules.{siteWordsFit, threadWordsFit}
 use Rattle.definitions.proofs.Slots.{Apart, length-putSlot, word-putSlot, slot-put-same, slot-put-other}
 use Rattle.definitions.proofs.Arrays.{Array, Differ, Outside, array-imp, array-same, differ-same, differ-push, slots-frame, put-array, push-array, take-array, push-length, push-outside, push-count, push-same, push-other, take-length, take-outside}
 use Rattle.definitions.proofs.StateRules.{SiteFits, ThreadFits, RecordFits, site-iff, thread-iff}
@@ -84,7 +84,7 @@ module _ (m : Model) (last : ℕ → ℕ) (x : Box) (r : List ℕ) (k : RecordFi
   site-count = omega (arith, k .size)
 
   -- an edit of the threads alone, and of the sites alone: the other array's words are as they were
-  edit-threads : (s : List ℕ) → length s ≡ length r → Outside 163 61 16 1 r s → Array 61 16 (threadHeld m last x) (threads s) (thread s)
+  edit-threads : (s : List ℕ) → length s ≡ length r → Outside 163 61 16 1 r s → Array 61 16 (threadWordsFit m last x) (threads s) (thread s)
       → RecordFits m last x s
   edit-threads s e o a =
       let w : (j : ℕ) → j ≢ 1 → j < 163 → word s j ≡ word r j = λ j n h. o j n (inl (omega arith)) in
@@ -98,7 +98,7 @@ module _ (m : Model) (last : ℕ → ℕ) (x : Box) (r : List ℕ) (k : RecordFi
         differ = differ-same (k .differ) _ _ n (λ i h. v i (omega (arith, k .sitesFit .most)));
       }
 
-  edit-sites : (s : List ℕ) → length s ≡ length r → Outside 3 10 16 2 r s → Array 10 16 (siteHeld m last) (sites s) (site s)
+  edit-sites : (s : List ℕ) → length s ≡ length r → Outside 3 10 16 2 r s → Array 10 16 (siteWordsFit m last) (sites s) (site s)
       → Differ (sites s) (site s) → RecordFits m last x s
   edit-sites s e o a d =
       let w : (j : ℕ) → 163 ≤ j → word s j ≡ word r j = λ j h. o j (omega arith) (inr (omega arith)) in

@@ -9,12 +9,12 @@ use lib.ListN.{length-set}
 use lib.Seq.{getD-set-same, getD-set-other}
 use Rattle.definitions.specs.Sets.{has}
 use Rattle.definitions.specs.Slots.{word}
-use Rattle.definitions.specs.Model.{Model, kind}
+use Rattle.definitions.specs.Model.{Model, kindOfName}
 use Rattle.definitions.specs.Record.{heldNumber, subject, typeWord, setFlag}
 use Rattle.definitions.specs.Start.{typeWords}
 use Rattle.definitions.proofs.Valid.{TypeSize}
 use Rattle.definitions.proofs.StateRules.{HeldFits, SiteFits}
-use Rattle.isolation.proofs.TypeWords.{length-typeWords, type-each, type-some, type-before, type-ascends}
+use Rattle.definitions.proofs.TypeWords.{length-typeWords, type-each, type-some, type-before, type-ascends}
 
 -- a type word stands two words on
 pub typeWord-is : (v f : ℕ) (t : List ℕ) (i : ℕ) → typeWord (v ∷ f ∷ t) i ≡ word t i
@@ -22,7 +22,7 @@ typeWord-is v f t i = ap (word (v ∷ f ∷ t)) (let e : 2 + i ≡ suc (suc i) =
 
 module _ (m : Model) (last : ℕ → ℕ) where
   pub site-fits : (v f : ℕ) (hold : ℕ → ℕ) (type : ℕ) → HeldFits m last v
-      → (kind (m .kinds) (heldNumber v) ≡ 0) ⊎ (kind (m .kinds) (heldNumber v) ≡ 3) → f ≤ 1 → TypeSize type
+      → (kindOfName (m .kinds) (heldNumber v) ≡ 0) ⊎ (kindOfName (m .kinds) (heldNumber v) ≡ 3) → f ≤ 1 → TypeSize type
       → ((n : ℕ) → n < 64 → T (has type n) → HeldFits m last (hold n)) → SiteFits m last (v ∷ f ∷ typeWords hold type)
   site-fits v f hold type v-fits k h z each =
       let at = typeWord-is v f (typeWords hold type) in

@@ -86,7 +86,7 @@ module _ (m : Model) (valid : Valid m) (st : List ℕ) (k : StateFits m st) wher
   inside-fits i b t u w a =
       rw (a .leaves)
       (put-fits m valid st k b (a .box) (a .new)
-      (inside-kept m valid b (a .box) (lastStamps st) (recordOf st b) (record-fits b (a .box)) refl i t u (a .new) (a .makes)))
+      (inside-kept m valid b (a .box) (lastStamps st) (recordOf st b) (record-fits b (a .box)) refl i t u (a .new) (a .isMade)))
 
   pub inside-size : (i : Inside) (b t u : ℕ) (r : List ℕ) → b < boxCount m → insideMove (m .kinds) (boxAt m b) (recordOf st b) i t u ≡ made r → length r ≡ 1139
   unfolding lastStamps
@@ -107,7 +107,7 @@ module _ (m : Model) (valid : Valid m) (st : List ℕ) (k : StateFits m st) wher
   inter-fits b t c u w a =
       let hb = a .box in
       let hc = a .box2 in
-      let i = inter-made (m .kinds) (boxAt m b) (recordOf st b) (boxAt m c) (recordOf st c) t u (a .ends) (a .makes) in
+      let i = inter-made (m .kinds) (boxAt m b) (recordOf st b) (boxAt m c) (recordOf st c) t u (a .ends) (a .isMade) in
       let sent = sent-fits m valid c hc (lastStamps st) (recordOf st c) (record-fits c hc) u (a .live2) (i .opIs2) in
       let one : Kept m (lastStamps st) b (recordOf st b) (a .ends .input) =
       rw (i .inputLeaves) (receive-kept m valid b hb (lastStamps st) (recordOf st b) (record-fits b hb) t (a .live) (i .opIs) _ sent) in

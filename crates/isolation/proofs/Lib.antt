@@ -1,5 +1,4 @@
 pub mod KeepHeld
-pub mod TypeWords
 pub mod KeepSite
 pub mod KeepRecord
 pub mod KeepMoves
@@ -13,3 +12,4 @@ pub mod Shut
 pub mod Follow
 pub mod Rule3
 pub mod Reached
+pub mod Runs

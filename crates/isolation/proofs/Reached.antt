@@ -1,16 +1,16 @@
--- What holds in every state that is reached from a start by any moves: the state rules; that an accepted estimate covers it (subject
--- reduction); that no inter move that names a shut-off box is made. And each answer belongs to its own step. Assumes nothing.
+-- What is true in every state that is reached from a start by any moves: the state rules; that an accepted estimate covers it (subject
+-- reduction); that no inter move that names a shut-off box is made. And a run is the list of its step calls. Assumes nothing.
 use mathlib.Core.Path.{_≡_, refl, ap, subst, sym, _∙_}
 use mathlib.Core.Logic.{_⊎_, inl, inr, _≢_, ⊎-elim}
 use mathlib.Core.Bool.{Bool, true, false, not}
-use mathlib.Core.List.{List, [], _∷_, _++_}
+use mathlib.Core.List.{List, [], _∷_}
 use mathlib.Core.Option.{Option, none, some}
 use Prim.Native.Nat.{ℕ}
 use native.Mathlib.Omega.{arith}
 use lib.Dec.{T}
 use lib.ListN.{length}
-use Rattle.definitions.specs.Bounded.{_or_, _is_, _isnt_, faultIf, orElse}
-use Rattle.definitions.specs.Answer.{Refusal, unplaced, answerNumber}
+use Rattle.definitions.specs.Bounded.{_or_, _is_, _isnt_, someIf, orElse}
+use Rattle.definitions.specs.Answer.{Refusal, unplaced}
 use Rattle.definitions.specs.Model.{Model}
 use Rattle.definitions.specs.Image.{modelOf}
 use Rattle.definitions.specs.ReadModel.{readModel}
@@ -20,8 +20,9 @@ use Rattle.definitions.specs.ShutOff.{isShutOff, question}
 use Rattle.definitions.specs.StateRules.{stateFits}
 use Rattle.definitions.specs.Record.{stateLength}
 use Rattle.definitions.specs.Start.{startState}
-use Rattle.definitions.specs.Moves.{Kind, inside, inter, unknown, kindOfMove, Move, Outcome, refused, made, namesBox, insideAct, interAct, act}
-use Rattle.definitions.specs.Calls.{start, outcomeWords, outcomeRefusal, stateRefusal, step, Ran, steps, makes, runRefusal, run}
+use Rattle.definitions.specs.Moves.{Kind, inter, kindOfMove, Move, Outcome, refused, made, interAct, actAs, act}
+use Rattle.definitions.specs.Calls.{start, outcomeWords, outcomeRefusal, stateRefusal, step, MovesResult, steps, actAll, runRefusal, run}
+use Rattle.isolation.specs.Group.{namesAs, names, only}
 use Rattle.definitions.proofs.Bounded.{left-none, right-none, fault-none, or-iff, is-iff, true-of, false-of}
 use Rattle.definitions.proofs.ReadModel.{valid-image}
 use Rattle.definitions.proofs.StateRules.{StateFits, state-iff}
@@ -32,14 +33,14 @@ use Rattle.isolation.specs.Covers.{Covers}
 use Rattle.definitions.proofs.Clauses.{broken-iff}
 use Rattle.isolation.proofs.Shut.{inter-refused}
 use Rattle.isolation.proofs.Follow.{outcome-good}
-use Rattle.isolation.proofs.Rule3.{question-yes, check-accepted, start-words, start-read, run-words, steps-are-moves, Good, good-start, good-next, one, image-shut}
+use Rattle.isolation.proofs.Rule3.{question-yes, check-accepted, start-words, start-read, run-words, steps-are-moves, Good, good-start, good-next, image-shut}
 
--- a property that a made move keeps holds after any list of moves
-makes-keep : (m : Model) (P : List ℕ → Type 0) → ((st : List ℕ) → P st → (v : Move) (w : List ℕ) → act m st v ≡ made w → P w)
-    → (vs : List Move) (st : List ℕ) → P st → P (makes m st vs .words)
-unfolding makes
-makes-keep m P next [] st p = p
-makes-keep m P next (v ∷ vs) st p = makes-keep m P next vs (outcomeWords st (act m st v)) (outcome-good m P st p v (next st p v))
+-- a property that a made move keeps is there after any list of moves
+moves-keep : (m : Model) (P : List ℕ → Type 0) → ((st : List ℕ) → P st → (v : Move) (w : List ℕ) → act m st v ≡ made w → P w)
+    → (vs : List Move) (st : List ℕ) → P st → P (actAll m st vs .words)
+unfolding actAll
+moves-keep m P next [] st p = p
+moves-keep m P next (v ∷ vs) st p = moves-keep m P next vs (outcomeWords st (act m st v)) (outcome-good m P st p v (next st p v))
 
 -- a step that refuses nothing made its move
 outcome-made : (o : Outcome (List ℕ)) → outcomeRefusal o ≡ none → (w : List ℕ) × (o ≡ made w)
@@ -56,27 +57,18 @@ step-made model st v e = outcome-made (act (modelOf model) st v) (right-none (st
 
 act-inter : (m : Model) (st : List ℕ) (v : Move) → kindOfMove (v .kind) ≡ inter → (w : List ℕ) → act m st v ≡ made w
     → interAct m st (v .box) (v .thread) (v .box2) (v .thread2) ≡ made w
-unfolding act
-act-inter m st v k w e = sym (ap (λ (x : Kind). by x) k) ∙ e
-  where
-    by : Kind → Outcome (List ℕ)
-    by x = elim x [
-      | inside i ↦ insideAct m st i (v .box) (v .thread) (v .thread2)
-      | inter ↦ interAct m st (v .box) (v .thread) (v .box2) (v .thread2)
-      | unknown ↦ refused 12
-    ]
+unfolding act actAs
+act-inter m st v k w e = sym (ap (λ (x : Kind). actAs m st x v) k) ∙ e
 
-names-inter : (v : Move) (h : ℕ) → kindOfMove (v .kind) ≡ inter → T (namesBox v h) → (v .box ≡ h) ⊎ (v .box2 ≡ h)
-unfolding namesBox
+names-inter : (v : Move) (h : ℕ) → kindOfMove (v .kind) ≡ inter → T (names (only h) v) → (v .box ≡ h) ⊎ (v .box2 ≡ h)
+unfolding names namesAs only
 names-inter v h k t =
-    ⊎-elim (λ a. inl (is-iff (v .box) h .0 a)) (λ a. inr (is-iff (v .box2) h .0 a)) (or-iff (v .box is h) (v .box2 is h) .0 (subst T (ap (λ (x : Kind). by x) k) t))
-  where
-    by : Kind → Bool
-    by x = elim x [ inside i ↦ v .box is h | inter ↦ v .box is h or v .box2 is h | unknown ↦ false ]
+    ⊎-elim (λ a. inl (is-iff (v .box) h .0 a)) (λ a. inr (is-iff (v .box2) h .0 a))
+    (or-iff (v .box is h) (v .box2 is h) .0 (subst T (ap (λ (x : Kind). namesAs (only h) x v) k) t))
 
 -- of two boxes that differ, one of which is h, exactly one is h
-one-side : (h b c : ℕ) → b ≢ c → (b ≡ h) ⊎ (c ≡ h) → one h b ≡ not (one h c)
-unfolding one
+one-side : (h b c : ℕ) → b ≢ c → (b ≡ h) ⊎ (c ≡ h) → only h b ≡ not (only h c)
+unfolding only
 one-side h b c n (inl e) = true-of (b is h) (is-iff b h .1 e) ∙ ap not (sym (false-of (c is h) (λ t. let q = is-iff c h .0 t in n (omega arith))))
 one-side h b c n (inr e) = false-of (b is h) (λ t. let q = is-iff b h .0 t in n (omega arith)) ∙ ap not (sym (true-of (c is h) (is-iff c h .1 e)))
 
@@ -85,8 +77,8 @@ run-state : (model words : List ℕ) (vs : List Move) (answers : List ℕ) → r
     → (readModel model ≡ none) × StateFits (modelOf model) words
 unfolding run runRefusal
 run-state model words vs answers e =
-    let size = faultIf (length words isnt stateLength or length answers isnt length vs) (unplaced 10) in
-    let state = faultIf (not (stateFits (modelOf model) words)) (unplaced 11) in
+    let size = someIf (length words isnt stateLength or length answers isnt length vs) (unplaced 10) in
+    let state = someIf (not (stateFits (modelOf model) words)) (unplaced 11) in
     let rest = right-none (readModel model) (orElse size state) e in
     let t = fault-none (not (stateFits (modelOf model) words)) (unplaced 11) (right-none size state rest) in
     (left-none (readModel model) (orElse size state) e, state-iff (modelOf model) words .0 (kept (stateFits (modelOf model) words) t))
@@ -98,16 +90,16 @@ run-state model words vs answers e =
 -- ---- from a start that is not refused
 
 module _ (model words : List ℕ) (started : start model words .answer ≡ none) (vs : List Move) where
-  after-is : steps model (start model words .words) vs .words ≡ makes (modelOf model) (startState (modelOf model)) vs .words
+  after-is : steps model (start model words .words) vs .words ≡ actAll (modelOf model) (startState (modelOf model)) vs .words
   after-is =
       rw (start-words model words started)
-      (ap (λ (r : Ran). r .words) (steps-are-moves model (start-read model words started) _ (start-fits (modelOf model) (valid-image model (start-read model words started))) vs))
+      (ap (λ (r : MovesResult). r .words) (steps-are-moves model (start-read model words started) _ (start-fits (modelOf model) (valid-image model (start-read model words started))) vs))
 
-  -- the state rules hold in every state so reached
+  -- every state so reached obeys the state rules
   pub reached-fits : StateFits (modelOf model) (steps model (start model words .words) vs .words)
   reached-fits =
       let valid = valid-image model (start-read model words started) in
-      rw after-is (makes-keep (modelOf model) (StateFits (modelOf model)) (act-fits (modelOf model) valid) vs (startState (modelOf model)) (start-fits (modelOf model) valid))
+      rw after-is (moves-keep (modelOf model) (StateFits (modelOf model)) (act-fits (modelOf model) valid) vs (startState (modelOf model)) (start-fits (modelOf model) valid))
 
   -- subject reduction: an accepted estimate covers every state so reached
   pub subject-reduction : (estimate : List ℕ) → check model estimate ≡ accepted → Covers (modelOf model) (estimateOf estimate) (steps model (start model words .words) vs .words)
@@ -116,31 +108,20 @@ module _ (model words : List ℕ) (started : start model words .answer ≡ none)
       let valid = valid-image model (c .model-read) in
       let meets = broken-iff (modelOf model) (estimateOf estimate) .0 (c .clauses) in
       rw after-is
-      (makes-keep (modelOf model) (Good (modelOf model) (estimateOf estimate)) (good-next (modelOf model) valid (estimateOf estimate) meets) vs
+      (moves-keep (modelOf model) (Good (modelOf model) (estimateOf estimate)) (good-next (modelOf model) valid (estimateOf estimate) meets) vs
       (startState (modelOf model)) (good-start (modelOf model) valid (estimateOf estimate) meets) .covered)
 
   -- no inter move that names a box shown shut off is ever made
-  pub inter-never-made : (estimate : List ℕ) (h : ℕ) → question model estimate h ≡ isShutOff true → (v : Move) → kindOfMove (v .kind) ≡ inter → T (namesBox v h)
+  pub inter-never-made : (estimate : List ℕ) (h : ℕ) → question model estimate h ≡ isShutOff true → (v : Move) → kindOfMove (v .kind) ≡ inter → T (names (only h) v)
       → step model (steps model (start model words .words) vs .words) v .answer ≢ none
   inter-never-made estimate h shut v k named answer =
       let y = question-yes model estimate h shut in
       let w = step-made model (steps model (start model words .words) vs .words) v answer in
       let z = act-inter (modelOf model) (steps model (start model words .words) vs .words) v k (w .0) (w .1) in
       let i = inter-act (modelOf model) (steps model (start model words .words) vs .words) (v .box) (v .thread) (v .box2) (v .thread2) (w .0) z in
-      inter-refused (modelOf model) (estimateOf estimate) (one h) (image-shut model estimate h y)
+      inter-refused (modelOf model) (estimateOf estimate) (only h) (image-shut model estimate h y)
       (steps model (start model words .words) vs .words) (subject-reduction estimate (y .accepts .verdict))
       (v .box) (v .thread) (v .box2) (v .thread2) (w .0) (one-side h (v .box) (v .box2) (i .differ) (names-inter v h k named)) z
-
--- ---- each answer belongs to its own step
-
--- the answer to a move in the middle of a list is that of one step call on the words that the moves before it left
-pub own-step : (model words : List ℕ) (vs : List Move) (v : Move) (us : List Move)
-    → steps model words (vs ++ (v ∷ us)) .answers
-    ≡ steps model words vs .answers ++ (answerNumber (step model (steps model words vs .words) v .answer) ∷ steps model (step model (steps model words vs .words) v .words) us .answers)
-unfolding steps
-own-step model words [] v us = refl
-own-step model words (x ∷ vs) v us =
-    ap (λ (l : List ℕ). answerNumber (step model words x .answer) ∷ l) (own-step model (step model words x .words) vs v us)
 
 -- a run that is not refused is the list of its step calls: the same answers, and the same words at the end
 pub run-is-steps : (model words : List ℕ) (vs : List Move) (answers : List ℕ) → run model words vs answers .answer ≡ none
@@ -149,4 +130,4 @@ run-is-steps model words vs answers e =
     let r = run-words model words vs answers e in
     let k = run-state model words vs answers e in
     let s = steps-are-moves model (k .0) words (k .1) vs in
-    (r .1 ∙ ap (λ (x : Ran). x .answers) (sym s), r .0 ∙ ap (λ (x : Ran). x .words) (sym s))
+    (r .1 ∙ ap (λ (x : MovesResult). x .answers) (sym s), r .0 ∙ ap (λ (x : MovesResult). x .words) (sym s))

@@ -1,6 +1,5 @@
 -- Rule 3, entire: from the question's yes to equal answers and equal records. Assumes nothing.
 use mathlib.Core.Path.{_≡_, refl, ap, ap₂, subst, sym, _∙_}
-use mathlib.Core.Logic.{_≢_}
 use mathlib.Core.Bool.{Bool, true, false, not}
 use mathlib.Core.List.{List, [], _∷_}
 use mathlib.Core.Option.{Option, none, some}
@@ -9,7 +8,7 @@ use native.Mathlib.Omega.{arith}
 use native.Mathlib.Decide.{decLt}
 use lib.Dec.{T, T-not}
 use lib.ListN.{length}
-use Rattle.definitions.specs.Bounded.{_is_, _isnt_, _below_, faultIf, orElse}
+use Rattle.definitions.specs.Bounded.{_is_, _isnt_, _below_, someIf, orElse}
 use Rattle.definitions.specs.Answer.{Refusal, unplaced, answerNumber}
 use Rattle.definitions.specs.Model.{Model, boxCount}
 use Rattle.definitions.specs.Image.{nameCount, boxesOf, modelOf}
@@ -21,24 +20,24 @@ use Rattle.definitions.specs.ShutOff.{shutOff, Reply, notAccepted, nobody, isSh
 use Rattle.definitions.specs.Record.{stateLength, recordOf}
 use Rattle.definitions.specs.StateRules.{stateFits}
 use Rattle.definitions.specs.Start.{startRecord, startState}
-use Rattle.definitions.specs.Moves.{Move, Outcome, refused, made, namesBox, act}
-use Rattle.definitions.specs.Calls.{written, startRefusal, start, outcomeNumber, outcomeWords, outcomeRefusal, stateRefusal, step, Ran, steps, makes, run}
-use Rattle.definitions.specs.Apart.{struck, answersLeft, EqualBut}
-use Rattle.definitions.proofs.Bounded.{tests, left-none, none-fault, of-true, false-of, is-iff, isnt-iff}
+use Rattle.definitions.specs.Moves.{Move, Outcome, refused, made, act}
+use Rattle.definitions.specs.Calls.{written, startRefusal, start, outcomeNumber, outcomeWords, outcomeRefusal, stateRefusal, step, MovesResult, steps, actAll, run}
+use Rattle.isolation.specs.Group.{only, struck, answersLeft, EqualOutside}
+use Rattle.definitions.proofs.Bounded.{tests, left-none, none-fault, of-true, isnt-iff}
 use Rattle.definitions.proofs.Valid.{Valid}
 use Rattle.definitions.proofs.Image.{model-count}
 use Rattle.definitions.proofs.ReadModel.{valid-image}
 use Rattle.definitions.proofs.StateRules.{StateFits, state-iff}
 use Rattle.isolation.proofs.KeepState.{act-fits, inside-size, inter-size}
-use Rattle.isolation.proofs.StartFits.{start-fits, start-record, start-lacking}
+use Rattle.definitions.proofs.Start.{start-record, start-lacking}
+use Rattle.isolation.proofs.StartFits.{start-fits}
 use Rattle.isolation.specs.Covers.{Covers}
 use Rattle.definitions.proofs.Clauses.{AllClauses, broken-iff}
 use Rattle.isolation.proofs.CoverStart.{start-covered}
 use Rattle.isolation.proofs.Covered.{act-covered}
 use Rattle.isolation.proofs.Shut.{GroupShut, shut-group, inter-same-side}
-use Rattle.isolation.specs.Rule3.{Setting, Same, Rule3, Rule3Run}
-use Rattle.isolation.specs.Group.{namesGroup, struckBy, leftBy}
-use Rattle.isolation.proofs.Follow.{SameOutside, EqualOutside, Reached, outcome-good, struck-alike}
+use Rattle.isolation.specs.Rule3.{Setting, Same, ran, Rule3, Rule3Run}
+use Rattle.isolation.proofs.Follow.{SameOutside, Reached, outcome-good, struck-alike}
 
 -- ---- what an acceptance and a yes say
 
@@ -119,68 +118,36 @@ module _ (image : List ℕ) (read : readModel image ≡ none) (Good : List ℕ �
         ap (λ (r : Option Refusal). written r (outcomeWords st o) st) e,
       )
 
-  pub steps-makes : (vs : List Move) (st : List ℕ) → Good st → steps image st vs ≡ makes (modelOf image) st vs
-  unfolding steps makes
-  steps-makes [] st g = refl
-  steps-makes (v ∷ vs) st g =
+  pub steps-acts : (vs : List Move) (st : List ℕ) → Good st → steps image st vs ≡ actAll (modelOf image) st vs
+  unfolding steps actAll
+  steps-acts [] st g = refl
+  steps-acts (v ∷ vs) st g =
       let a = step-act st g v in
-      let rest = ap (λ (w : List ℕ). steps image w vs) (a .1) ∙ steps-makes vs (outcomeWords st (act (modelOf image) st v)) (outcome-good (modelOf image) Good st g v (next st g v)) in
-      ap₂ (λ (n : ℕ) (r : Ran). let z : Ran = record { answers = n ∷ r .answers; words = r .words } in z) (a .0) rest
+      let rest = ap (λ (w : List ℕ). steps image w vs) (a .1) ∙ steps-acts vs (outcomeWords st (act (modelOf image) st v)) (outcome-good (modelOf image) Good st g v (next st g v)) in
+      ap₂ (λ (n : ℕ) (r : MovesResult). let z : MovesResult = record { answers = n ∷ r .answers; words = r .words } in z) (a .0) rest
 
--- ---- the group of one box
+-- ---- two lists that are equal once struck, each in its model, from states that are the same outside
 
-module _ (h : ℕ) where
-  unfoldable pub one : ℕ → Bool
-  one b = b is h
+record SameFor (group : ℕ → Bool) (vs₁ vs₂ : List Move) (ran₁ ran₂ : MovesResult) : Type 0 where
+  answers : answersLeft group vs₁ (ran₁ .answers) ≡ answersLeft group vs₂ (ran₂ .answers)
+  records : SameOutside group (ran₁ .words) (ran₂ .words)
 
-  names-one : (v : Move) → namesBox v h ≡ namesGroup one v
-  unfolding namesBox namesGroup one
-  names-one v = refl
-
-  struck-one : (vs : List Move) → struck h vs ≡ struckBy one vs
-  unfolding struck struckBy
-  struck-one [] = refl
-  struck-one (v ∷ vs) =
-      ap₂ (λ (b : Bool) (l : List Move). elim b as (λ _. List Move) [ true ↦ l | false ↦ v ∷ l ]) (names-one v) (struck-one vs)
-
-  left-one : (vs : List Move) (l : List ℕ) → answersLeft h vs l ≡ leftBy one vs l
-  unfolding answersLeft leftBy
-  left-one [] l = refl
-  left-one (v ∷ vs) [] = refl
-  left-one (v ∷ vs) (a ∷ l) =
-      ap₂ (λ (b : Bool) (k : List ℕ). elim b as (λ _. List ℕ) [ true ↦ k | false ↦ a ∷ k ]) (names-one v) (left-one vs l)
-
-  other-of : (b : ℕ) → b ≢ h → one b ≡ false
-  unfolding one
-  other-of b n = false-of (b is h) (λ t. n (is-iff b h .0 t))
-
-  of-other : (b : ℕ) → one b ≡ false → b ≢ h
-  unfolding one
-  of-other b e q = subst T e (is-iff b h .1 q)
-
-  equal-one : (m₁ m₂ : Model) → EqualBut h m₁ m₂ → EqualOutside one m₁ m₂
-  equal-one m₁ m₂ k = record { kinds = k .kinds; count = k .count; others = λ b l o. k .others b l (of-other b o) }
-
-  -- two lists that are equal once struck, each in its model, from states that are the same outside
-  lists-alike : (m₁ m₂ : Model) (Good₁ Good₂ : List ℕ → Type 0) → EqualBut h m₁ m₂ → EqualBut h m₂ m₂ → Reached one m₁ Good₁ → Reached one m₂ Good₂
-      → (st₁ st₂ : List ℕ) → Good₁ st₁ → Good₂ st₂ → SameOutside one st₁ st₂ → (vs₁ vs₂ : List Move) → struck h vs₁ ≡ struck h vs₂
-      → Same h vs₁ vs₂ (makes m₁ st₁ vs₁) (makes m₂ st₂ vs₂)
-  lists-alike m₁ m₂ Good₁ Good₂ k k₂ r₁ r₂ st₁ st₂ g₁ g₂ same vs₁ vs₂ e =
-      let a = struck-alike one m₁ m₂ (equal-one m₁ m₂ k) Good₁ Good₂ r₁ r₂ vs₁ st₁ st₂ g₁ g₂ same in
-      let b = struck-alike one m₂ m₂ (equal-one m₂ m₂ k₂) Good₂ Good₂ r₂ r₂ vs₂ st₂ st₂ g₂ g₂ (λ _ _ _. refl) in
-      let q : makes m₂ st₂ (struckBy one vs₁) ≡ makes m₂ st₂ (struckBy one vs₂) =
-      ap (makes m₂ st₂) (sym (struck-one vs₁) ∙ e ∙ struck-one vs₂) in
-      record {
-        answers = left-one vs₁ (makes m₁ st₁ vs₁ .answers) ∙ a .answers ∙ ap (λ (r : Ran). r .answers) q ∙ sym (b .answers) ∙ sym (left-one vs₂ (makes m₂ st₂ vs₂ .answers));
-        records = λ c l n.
-            let o = other-of c n in
-            a .words c l o ∙ ap (λ (r : Ran). recordOf (r .words) c) q ∙ sym (b .words c l o);
-      }
+lists-alike : (group : ℕ → Bool) (m₁ m₂ : Model) (Good₁ Good₂ : List ℕ → Type 0) → EqualOutside group m₁ m₂ → EqualOutside group m₂ m₂
+    → Reached group m₁ Good₁ → Reached group m₂ Good₂ → (st₁ st₂ : List ℕ) → Good₁ st₁ → Good₂ st₂ → SameOutside group st₁ st₂
+    → (vs₁ vs₂ : List Move) → struck group vs₁ ≡ struck group vs₂ → SameFor group vs₁ vs₂ (actAll m₁ st₁ vs₁) (actAll m₂ st₂ vs₂)
+lists-alike group m₁ m₂ Good₁ Good₂ k k₂ r₁ r₂ st₁ st₂ g₁ g₂ same vs₁ vs₂ e =
+    let a = struck-alike group m₁ m₂ k Good₁ Good₂ r₁ r₂ vs₁ st₁ st₂ g₁ g₂ same in
+    let b = struck-alike group m₂ m₂ k₂ Good₂ Good₂ r₂ r₂ vs₂ st₂ st₂ g₂ g₂ (λ _ _ _. refl) in
+    let q : actAll m₂ st₂ (struck group vs₁) ≡ actAll m₂ st₂ (struck group vs₂) = ap (actAll m₂ st₂) e in
+    record {
+      answers = a .answers ∙ ap (λ (r : MovesResult). r .answers) q ∙ sym (b .answers);
+      records = λ c l o. a .words c l o ∙ ap (λ (r : MovesResult). recordOf (r .words) c) q ∙ sym (b .words c l o);
+    }
 
 -- what a start that is not refused says of the model, and leaves
 pub start-read : (image words : List ℕ) → start image words .answer ≡ none → readModel image ≡ none
 unfolding start startRefusal
-start-read image words e = left-none (readModel image) (faultIf (length words isnt stateLength) (unplaced 10)) e
+start-read image words e = left-none (readModel image) (someIf (length words isnt stateLength) (unplaced 10)) e
 
 pub start-words : (image words : List ℕ) → start image words .answer ≡ none → start image words .words ≡ startState (modelOf image)
 unfolding start
@@ -188,10 +155,10 @@ start-words image words e = ap (λ (r : Option Refusal). written r (startState (
 
 -- what a run that is not refused leaves
 pub run-words : (image words : List ℕ) (vs : List Move) (answers : List ℕ) → run image words vs answers .answer ≡ none
-    → (run image words vs answers .words ≡ makes (modelOf image) words vs .words) × (run image words vs answers .answers ≡ makes (modelOf image) words vs .answers)
+    → (run image words vs answers .words ≡ actAll (modelOf image) words vs .words) × (run image words vs answers .answers ≡ actAll (modelOf image) words vs .answers)
 unfolding run
 run-words image words vs answers e =
-    let all = makes (modelOf image) words vs in
+    let all = actAll (modelOf image) words vs in
     (ap (λ (r : Option Refusal). written r (all .words) words) e, ap (λ (r : Option Refusal). written r (all .answers) answers) e)
 
 -- ---- the states that are reached from a start
@@ -220,21 +187,21 @@ module _ (m : Model) (valid : Valid m) (e : Estimate) (meets : AllClauses m e) w
     next = good-next;
   }
 
--- two models that are equal but for one box start with the same records in the others
-start-same : (h : ℕ) (m₁ m₂ : Model) → Valid m₁ → EqualBut h m₁ m₂ → SameOutside (one h) (startState m₁) (startState m₂)
-start-same h m₁ m₂ valid k b l o = pick (decLt b (boxCount m₁))
+-- two models that are equal outside start with the same records outside
+start-same : (group : ℕ → Bool) (m₁ m₂ : Model) → Valid m₁ → EqualOutside group m₁ m₂ → SameOutside group (startState m₁) (startState m₂)
+start-same group m₁ m₂ valid k b l o = pick (decLt b (boxCount m₁))
   where
     pick : Dec (b < boxCount m₁) → recordOf (startState m₁) b ≡ recordOf (startState m₂) b
     pick (yes i) =
-        start-record m₁ b l i ∙ ap startRecord (k .others b i (of-other h b o)) ∙ sym (start-record m₂ b l (omega (arith, k .count)))
+        start-record m₁ b l i ∙ ap startRecord (k .others b i o) ∙ sym (start-record m₂ b l (omega (arith, k .count)))
     pick (no i) = start-lacking m₁ b l (omega arith) ∙ sym (start-lacking m₂ b l (omega (arith, k .count)))
 
 -- in a model that is not refused, from a state that obeys the state rules, a list of step calls makes its moves one after the other:
 -- no step refuses the model, the length or the state
 pub steps-are-moves : (model : List ℕ) → readModel model ≡ none → (st : List ℕ) → StateFits (modelOf model) st → (vs : List Move)
-    → steps model st vs ≡ makes (modelOf model) st vs
+    → steps model st vs ≡ actAll (modelOf model) st vs
 steps-are-moves model read st fits vs =
-    steps-makes model read (StateFits (modelOf model)) (λ w k. k .size) (λ w k. state-iff (modelOf model) w .1 k)
+    steps-acts model read (StateFits (modelOf model)) (λ w k. k .size) (λ w k. state-iff (modelOf model) w .1 k)
     (act-fits (modelOf model) (valid-image model read)) vs st fits
 
 -- ---- an image whose estimate is accepted
@@ -246,12 +213,11 @@ module _ (model estimate : List ℕ) (h : ℕ) (yes : Yes model estimate h) wher
   pub image-accepted : AllClauses (modelOf model) (estimateOf estimate)
   image-accepted = broken-iff (modelOf model) (estimateOf estimate) .0 (yes .accepts .clauses)
 
-  pub image-shut : GroupShut (estimateOf estimate) (boxCount (modelOf model)) (one h)
-  unfolding one
+  pub image-shut : GroupShut (estimateOf estimate) (boxCount (modelOf model)) (only h)
   image-shut = rw (model-count model) (shut-group (estimateOf estimate) (boxesOf model) h (yes .shut))
 
-  pub image-reached : Reached (one h) (modelOf model) (Good (modelOf model) (estimateOf estimate))
-  image-reached = good-reached (modelOf model) image-valid (estimateOf estimate) image-accepted (one h) image-shut
+  pub image-reached : Reached (only h) (modelOf model) (Good (modelOf model) (estimateOf estimate))
+  image-reached = good-reached (modelOf model) image-valid (estimateOf estimate) image-accepted (only h) image-shut
 
   pub image-start : Good (modelOf model) (estimateOf estimate) (startState (modelOf model))
   image-start = good-start (modelOf model) image-valid (estimateOf estimate) image-accepted
@@ -266,12 +232,14 @@ module _ (model₁ model₂ estimate₁ estimate₂ : List ℕ) (h : ℕ) (words
   yes₂ : Yes model₂ estimate₂ h
   yes₂ = question-yes model₂ estimate₂ h (s .shut₂)
 
-  makes-same : Same h moves₁ moves₂ (makes (modelOf model₁) (startState (modelOf model₁)) moves₁) (makes (modelOf model₂) (startState (modelOf model₂)) moves₂)
+  makes-same : Same h moves₁ moves₂ (actAll (modelOf model₁) (startState (modelOf model₁)) moves₁) (actAll (modelOf model₂) (startState (modelOf model₂)) moves₂)
   makes-same =
-      lists-alike h (modelOf model₁) (modelOf model₂) _ _ (s .equalBut) (record { kinds = refl; count = refl; others = λ _ _ _. refl })
+      let k =
+      lists-alike (only h) (modelOf model₁) (modelOf model₂) _ _ (s .equalOutside) (record { kinds = refl; count = refl; others = λ _ _ _. refl })
       (image-reached model₁ estimate₁ h yes₁) (image-reached model₂ estimate₂ h yes₂) (startState (modelOf model₁)) (startState (modelOf model₂))
       (image-start model₁ estimate₁ h yes₁) (image-start model₂ estimate₂ h yes₂)
-      (start-same h (modelOf model₁) (modelOf model₂) (image-valid model₁ estimate₁ h yes₁) (s .equalBut)) moves₁ moves₂ (s .moves)
+      (start-same (only h) (modelOf model₁) (modelOf model₂) (image-valid model₁ estimate₁ h yes₁) (s .equalOutside)) moves₁ moves₂ (s .moves) in
+      record { answers = k .answers; records = k .records }
 
   steps-same : Same h moves₁ moves₂ (steps model₁ (start model₁ words₁ .words) moves₁) (steps model₂ (start model₂ words₂ .words) moves₂)
   steps-same =
@@ -285,9 +253,7 @@ module _ (model₁ model₂ estimate₁ estimate₂ : List ℕ) (h : ℕ) (words
 
   runs-same : (answers₁ answers₂ : List ℕ)
       → run model₁ (start model₁ words₁ .words) moves₁ answers₁ .answer ≡ none → run model₂ (start model₂ words₂ .words) moves₂ answers₂ .answer ≡ none
-      → Same h moves₁ moves₂
-      (let r = run model₁ (start model₁ words₁ .words) moves₁ answers₁ in record { answers = r .answers; words = r .words })
-      (let r = run model₂ (start model₂ words₂ .words) moves₂ answers₂ in record { answers = r .answers; words = r .words })
+      → Same h moves₁ moves₂ (ran (run model₁ (start model₁ words₁ .words) moves₁ answers₁)) (ran (run model₂ (start model₂ words₂ .words) moves₂ answers₂))
   runs-same answers₁ answers₂ e₁ e₂ =
       let r₁ = run-words model₁ (start model₁ words₁ .words) moves₁ answers₁ e₁ in
       let r₂ = run-words model₂ (start model₂ words₂ .words) moves₂ answers₂ e₂ in

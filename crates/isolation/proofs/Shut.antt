@@ -9,14 +9,16 @@ use Rattle.definitions.specs.Bounded.{_is_}
 use Rattle.definitions.specs.Sets.{has, forSome, meets}
 use Rattle.definitions.specs.Model.{Model, boxAt, boxCount}
 use Rattle.definitions.specs.Estimate.{Estimate}
+use Rattle.isolation.specs.Group.{only}
 use Rattle.definitions.specs.ShutOff.{linked, shutOff}
 use Rattle.definitions.specs.Record.{recordOf, heldNumber}
 use Rattle.definitions.specs.Moves.{made, value1, interAct}
 use Rattle.definitions.proofs.Bounded.{tests, is-iff, of-true, not-false}
 use Rattle.definitions.proofs.Sets.{forSome-iff, meets-comm}
 use Rattle.definitions.proofs.Made.{inter-act, inter-made}
+use Rattle.definitions.proofs.StateRules.{number-low}
 use Rattle.isolation.specs.Covers.{Covers}
-use Rattle.isolation.proofs.CoverMoves.{number-low, Linked, inter-linked}
+use Rattle.isolation.proofs.CoverMoves.{Linked, inter-linked}
 
 -- of the boxes below `boxes`, none inside shares a type name with one outside
 pub record GroupShut (e : Estimate) (boxes : ℕ) (inside : ℕ → Bool) : Type 0 where
@@ -24,8 +26,8 @@ pub record GroupShut (e : Estimate) (boxes : ℕ) (inside : ℕ → Bool) : Type
       → (a : ℕ) → a < 64 → T (has (e .shown h) a) → (c : ℕ) → c < 64 → T (has (e .shown k) c) → T (meets (e .eps h a) (e .eps k c)) → ⊥
 
 -- a box that is shut off is a group of one
-pub shut-group : (e : Estimate) (boxes h : ℕ) → T (shutOff e boxes h) → GroupShut e boxes (λ b. b is h)
-unfolding shutOff linked
+pub shut-group : (e : Estimate) (boxes h : ℕ) → T (shutOff e boxes h) → GroupShut e boxes (only h)
+unfolding shutOff linked only
 shut-group e boxes h t = record {
   apart = λ b hb eb k hk ek a la pa c lc pc q.
       let z : b ≡ h = is-iff b h .0 (of-true eb) in
@@ -53,7 +55,7 @@ inter-refused m e inside g st cov b t c u w d z =
     let i = inter-act m st b t c u w z in
     let k =
     inter-linked (m .kinds) (boxAt m b) (boxAt m c) e b c (recordOf st b) (recordOf st c) (cov .records b (i .box)) (cov .records c (i .box2)) t u (i .ends)
-    (inter-made (m .kinds) (boxAt m b) (recordOf st b) (boxAt m c) (recordOf st c) t u (i .ends) (i .makes)) in
+    (inter-made (m .kinds) (boxAt m b) (recordOf st b) (boxAt m c) (recordOf st c) t u (i .ends) (i .isMade)) in
     linked-shut e (boxCount m) inside g b c (value1 (m .kinds) (boxAt m b) (recordOf st b) t) (value1 (m .kinds) (boxAt m c) (recordOf st c) u) (i .box) (i .box2) d k
 
 -- the same, as it is used: a made inter move has both its ends inside, or both outside

@@ -4,6 +4,7 @@ use mathlib.Core.Logic.{_≢_}
 use mathlib.Core.List.{List}
 use Prim.Native.Nat.{ℕ, _<_}
 use lib.Dec.{T}
+use Rattle.definitions.specs.Limits.{nameLimit, typeLimit}
 use Rattle.definitions.specs.Sets.{has}
 use Rattle.definitions.specs.Model.{Model, boxCount}
 use Rattle.definitions.specs.Estimate.{Estimate}
@@ -11,13 +12,13 @@ use Rattle.definitions.specs.Record.{heldNumber, threads, sites, site, thread, 
 
 -- a thread is covered: what is bound to n is in rho(n)
 pub record CoversThread (e : Estimate) (y : List ℕ) : Type 0 where
-  pub bindings : (n : ℕ) → n < 60 → binding y n ≢ 0 → T (has (e .rho n) (heldNumber (binding y n)))
+  pub bindings : (n : ℕ) → n < nameLimit → binding y n ≢ 0 → T (has (e .rho n) (heldNumber (binding y n)))
 
 -- a site of box b is covered: its subject is in shown or hidden, and each held name of its type is in eps
 pub record CoversSite (e : Estimate) (b : ℕ) (x : List ℕ) : Type 0 where
   pub shown : flag x ≡ 0 → T (has (e .shown b) (heldNumber (subject x)))
   pub hidden : flag x ≢ 0 → T (has (e .hidden b) (heldNumber (subject x)))
-  pub types : (j : ℕ) → j < 8 → typeWord x j ≢ 0 → T (has (e .eps b (heldNumber (subject x))) (heldNumber (typeWord x j)))
+  pub types : (j : ℕ) → j < typeLimit → typeWord x j ≢ 0 → T (has (e .eps b (heldNumber (subject x))) (heldNumber (typeWord x j)))
 
 -- the record of box b is covered: each of its threads and sites is
 pub record CoversRecord (e : Estimate) (b : ℕ) (r : List ℕ) : Type 0 where

@@ -1,3 +1,4 @@
 pub mod Group
 pub mod Covers
 pub mod Rule3
+pub mod Runs

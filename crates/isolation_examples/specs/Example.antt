@@ -5,17 +5,17 @@ use lib.ListN.{getD}
 use Rattle.definitions.specs.Model.{Box, Model}
 use Rattle.definitions.specs.Estimate.{Estimate}
 use Rattle.definitions.specs.Moves.{Move}
-use Rattle.definitions.specs.Encode.{encodeModel, encodeEstimate}
-use Rattle.definitions.specs.Starred.{site, line0, boxK0, boxK1, spreadOf, interOf}
+use Rattle.image_examples.specs.Encode.{encodeModel, encodeEstimate}
+use Rattle.definitions.specs.Starred.{shownSite, untypedLine, boxK0, boxK1, spreadOf, interOf}
 
 -- ---- a box that is shut off. The names of K, and 6 w free, 7 d free, 8 r restricted; box 2 has a site w of type {d}
 
 -- box 2 as two buyers fill it: one does nothing, the other makes a name
 unfoldable pub quiet : Box
-quiet = record { sites = site 6 (2 ^ 7) ∷ []; lines = line0 0 0 0 0 0 ∷ [] }
+quiet = record { sites = shownSite 6 (2 ^ 7) ∷ []; lines = untypedLine 0 0 0 0 0 ∷ [] }
 
 unfoldable pub busy : Box
-busy = record { sites = site 6 (2 ^ 7) ∷ []; lines = line0 3 8 0 1 0 ∷ line0 0 0 0 0 0 ∷ [] }
+busy = record { sites = shownSite 6 (2 ^ 7) ∷ []; lines = untypedLine 3 8 0 1 0 ∷ untypedLine 0 0 0 0 0 ∷ [] }
 
 unfoldable pub filled : Box → Model
 filled x = record { kinds = 0 ∷ 0 ∷ 2 ∷ 0 ∷ 0 ∷ 0 ∷ 0 ∷ 0 ∷ 1 ∷ []; boxes = boxK0 ∷ boxK1 ∷ x ∷ [] }
@@ -55,7 +55,10 @@ busyMoves = moveOf 3 2 0 ∷ spreadOf 0 0 ∷ interOf 0 0 1 0 ∷ moveOf 1 2 0 �
 -- ---- a box that is not shut off: box 1 of K, which sends v, and the same box sending c
 
 unfoldable pub sending : ℕ → Model
-sending n = record { kinds = 0 ∷ 0 ∷ 2 ∷ 0 ∷ 0 ∷ 0 ∷ []; boxes = boxK0 ∷ record { sites = site 3 (2 ^ 5) ∷ []; lines = line0 4 3 n 1 0 ∷ line0 0 0 0 0 0 ∷ [] } ∷ [] }
+sending n = record {
+  kinds = 0 ∷ 0 ∷ 2 ∷ 0 ∷ 0 ∷ 0 ∷ [];
+  boxes = boxK0 ∷ record { sites = shownSite 3 (2 ^ 5) ∷ []; lines = untypedLine 4 3 n 1 0 ∷ untypedLine 0 0 0 0 0 ∷ [] } ∷ [];
+}
 
 unfoldable pub estimateSending : ℕ → Estimate
 estimateSending n = record {

@@ -1,5 +1,1 @@
-pub mod Records
-pub mod Holds
-pub mod Parts
-pub mod Told
-pub mod Laid
+pub mod LayoutOf

@@ -1,71 +1,59 @@
-// A model image, read where it stands: its layout, or the refusal with its number and two places; and views on what it holds.
-use sets::NameNo;
+// A model image, read where it stands: its layout, or the refusal with its number and two places; and the box that binds a name.
+ghost use mathlib.Core.Path.{_≡_};
+ghost use Rattle.definitions.specs.ReadModel.{readModel};
+ghost use Rattle.refusals.specs.Answers.{answerIn};
+ghost use Rattle.layouts.specs.LayoutOf.{LayoutOf};
+pub use layouts::Layout;
+pub use layouts::Owner;
+pub use layouts::owner_of;
+use refusals::Answer;
 
-mod answers;
-mod boxes;
-mod fits;
-mod laying;
-mod names;
-mod order;
-mod passes;
-pub mod reading;
-pub mod views;
-
-// The paper's refusal: its number, and its two places.
-pub struct Refusal {
-    pub number: u8,
-    pub place: usize,
-    pub second: usize,
-}
-
-pub enum Answer {
-    Held,
-    Refused(Refusal),
-}
-
-// Where a model's parts stand. For box b: the block of its sites, how many sites and lines it has, and the names that its lines bind.
-// Then the listed names, and those of each kind.
-pub struct Layout {
-    pub names: usize,
-    pub boxes: usize,
-    pub at: [usize; 8],
-    pub sites: [usize; 8],
-    pub lines: [usize; 8],
-    pub bound: [u64; 8],
-    pub listed: u64,
-    pub free: u64,
-    pub restricted: u64,
-    pub received: u64,
-    pub exposed: u64,
-}
-
-// The layout stands where the answer is that the image is held.
-pub struct Read {
+// The layout stands where the image is not refused.
+pub struct ReadResult {
     pub answer: Answer,
     pub layout: Layout,
 }
 
-// A site's record; names is its type.
-pub struct Site {
-    pub subject: NameNo,
-    pub flag: u8,
-    pub spare: u64,
-    pub names: u64,
+// The layout of no model.
+fn empty_layout() -> Layout {
+    Layout {
+        names: 0,
+        boxes: 0,
+        at: [0usize; 8],
+        sites: [0usize; 8],
+        lines: [0usize; 8],
+        bound: [0u64; 8],
+        listed: 0,
+        free: 0,
+        restricted: 0,
+        received: 0,
+        exposed: 0,
+    }
 }
 
-// A line's record; names is its type.
-pub struct Line {
-    pub op: u8,
-    pub name1: NameNo,
-    pub name2: NameNo,
-    pub spare: u8,
-    pub child1: usize,
-    pub child2: usize,
-    pub names: u64,
-}
-
-// The box that binds a name.
-pub enum Owner {
-    Nobody,
-    Of(usize),
+// A model image is read: the first refusal in the paper's order, or the layout.
+pub fn read(image: &[u8]) -> ReadResult
+    ensures answer { λ r. ⌜ answerIn (r .answer) ≡ readModel (now (image .entry)) ⌝ }
+    ensures layout { λ r. ⌜ (r .answer ≡ Answer.NoRefusal → LayoutOf (now (image .entry)) (r .layout)) ⌝ }
+{
+    let f = block_order::length_fault(image);
+    if let Answer::Refused(_) = f {
+        return ReadResult {
+            answer: f,
+            layout: empty_layout(),
+        };
+    }
+    let g = block_order::blocks_fault(image);
+    if let Answer::Refused(_) = g {
+        return ReadResult {
+            answer: g,
+            layout: empty_layout(),
+        };
+    }
+    let l = layouts::layout_of(image);
+    let h = model_rules::model_fault(image, l);
+    ReadResult {
+        answer: h,
+        layout: l,
+    }
 }

@@ -1,4 +1,4 @@
-// What the programs share: files read into buffers, and numbers and sets written to standard output.
+// What the programs share: files read into buffers, numbers and sets written to standard output, and the checker on two files.
 ghost use mathlib.Core.Path.{_≡_};
 ghost use lib.ListN.{length};
 ghost use Rattle.io.specs.Counts.{Counts};
@@ -31,6 +31,25 @@ pub fn load(path: &[u8], buffer: &mut [u8]) -> usize
     n
 }
 
+// Whether a file is missing or can be read; where it is there and cannot, as a folder cannot, a line on standard error says why.
+fn readable(path: &[u8]) -> bool {
+    let file = os::open_read(path);
+    if file < 0 {
+        let missing = os::errno() == libc::ENOENT;
+        if !missing {
+            os::fail(path);
+        }
+        return missing;
+    }
+    let mut first = [0u8; 1];
+    let got = libc::read(file, &mut first);
+    if got < 0 {
+        os::fail(path);
+    }
+    libc::close(file);
+    0 <= got
+}
+
 // Bytes, as they are.
 pub fn write(bytes: &[u8]) {
     io::write_all(STDOUT_FILENO, bytes);
@@ -47,9 +66,9 @@ pub fn set(s: u64) {
     write(b" {");
     let mut left = s;
     while left != 0 {
-        let n = sets::first(left);
+        let n = sets::lowest(left);
         io::print_decimal(STDOUT_FILENO, n.0 as u64);
-        left = sets::rest(left);
+        left = sets::without_lowest(left);
         if left != 0 {
             write(b",");
         }
@@ -59,4 +78,35 @@ pub fn set(s: u64) {
 
 pub fn end_line() {
     write(b"\n");
+}
+
+// Bytes, and a line on standard error where they could not be written.
+fn write_answer(bytes: &[u8]) {
+    if !io::write_all(STDOUT_FILENO, bytes) {
+        os::fail(b"standard output");
+    }
+}
+
+// The checker's line for two images.
+fn report(model: &[u8], estimate: &[u8]) {
+    let t = report::line(analysis::check(model, estimate));
+    let n = t.len;
+    let bytes = t.bytes;
+    write_answer(&bytes[..n]);
+}
+
+// The checker on two files. Of a file that is too long one byte past the limit is read, which is enough to refuse it.
+fn check_loaded(model_path: &[u8], estimate_path: &[u8]) {
+    let mut model = model_buffer();
+    let mut estimate = estimate_buffer();
+    let m = load(model_path, &mut model);
+    let e = load(estimate_path, &mut estimate);
+    report(&model[..m], &estimate[..e]);
+}
+
+// The checker on two files: its line goes to standard output. A missing file counts as empty; for one that cannot be read there is no line.
+pub fn check_files(model_path: &[u8], estimate_path: &[u8]) {
+    if readable(model_path) & readable(estimate_path) {
+        check_loaded(model_path, estimate_path);
+    }
 }

@@ -4,14 +4,14 @@ use mathlib.Core.List.{List, [], _∷_, _++_, append-assoc}
 use Prim.Native.Nat.{ℕ, _+_, _≤_}
 use native.Mathlib.Omega.{arith}
 use lib.ListN.{length}
-use Rattle.definitions.specs.Program.{bytesOf, decimalIn, threeNumbers, lineOf}
-use Rattle.model.specs.declared.Refusal.{Refusal}
-use Rattle.analysis.specs.declared.Broken.{Broken}
+use Rattle.definitions.specs.Program.{bytesOf, decimalIn, threeNumbers, verdictLine}
+use Rattle.refusals.specs.declared.Refusal.{Refusal}
+use Rattle.first_broken.specs.declared.Broken.{Broken}
 use Rattle.analysis.specs.declared.Verdict.{Verdict}
 use Rattle.analysis.specs.declared.Verdict.the-variants.{Accepted, Breaks, RefusedModel, RefusedEstimate}
 use Rattle.analysis.specs.Answers.{verdictIn}
-use Rattle.text.specs.declared.Text.{Text}
-use Rattle.text.specs.Text.{textOf, Room, Reads}
+use Rattle.report.specs.declared.text.Text.{Text}
+use Rattle.report.specs.Text.{textOf, Room, Reads}
 
 -- three numbers: each is followed by one byte
 pub three-done : (t n₁ b₁ n₂ b₂ n₃ b₃ : Text) (a b c : ℕ) → Reads (textOf t ++ decimalIn 20 a) (t .len + 20) n₁
@@ -43,18 +43,18 @@ word-three e t u w v x a b c q l r s z k = record {
 }
 
 -- the line of each verdict
-pub line-accepted : (v : Verdict) → v ≡ Accepted → lineOf (verdictIn v) ≡ bytesOf "accepted\n"
-unfolding lineOf
-line-accepted v k = ap (λ (x : Verdict). lineOf (verdictIn x)) k
+pub line-accepted : (v : Verdict) → v ≡ Accepted → verdictLine (verdictIn v) ≡ bytesOf "accepted\n"
+unfolding verdictLine
+line-accepted v k = ap (λ (x : Verdict). verdictLine (verdictIn x)) k
 
-pub line-breaks : (v : Verdict) (x : Broken) → v ≡ Breaks x → lineOf (verdictIn v) ≡ bytesOf "clause " ++ threeNumbers (x .clause) (x .boxno) (x .place)
-unfolding lineOf
-line-breaks v x k = ap (λ (y : Verdict). lineOf (verdictIn y)) k
+pub line-breaks : (v : Verdict) (x : Broken) → v ≡ Breaks x → verdictLine (verdictIn v) ≡ bytesOf "clause " ++ threeNumbers (x .clause) (x .boxno) (x .place)
+unfolding verdictLine
+line-breaks v x k = ap (λ (y : Verdict). verdictLine (verdictIn y)) k
 
-pub line-model : (v : Verdict) (x : Refusal) → v ≡ RefusedModel x → lineOf (verdictIn v) ≡ bytesOf "refused model " ++ threeNumbers (x .number) (x .place) (x .second)
-unfolding lineOf
-line-model v x k = ap (λ (y : Verdict). lineOf (verdictIn y)) k
+pub line-model : (v : Verdict) (x : Refusal) → v ≡ RefusedModel x → verdictLine (verdictIn v) ≡ bytesOf "refused model " ++ threeNumbers (x .number) (x .place) (x .second)
+unfolding verdictLine
+line-model v x k = ap (λ (y : Verdict). verdictLine (verdictIn y)) k
 
-pub line-estimate : (v : Verdict) (x : Refusal) → v ≡ RefusedEstimate x → lineOf (verdictIn v) ≡ bytesOf "refused estimate " ++ threeNumbers (x .number) (x .place) (x .second)
-unfolding lineOf
-line-estimate v x k = ap (λ (y : Verdict). lineOf (verdictIn y)) k
+pub line-estimate : (v : Verdict) (x : Refusal) → v ≡ RefusedEstimate x → verdictLine (verdictIn v) ≡ bytesOf "refused estimate " ++ threeNumbers (x .number) (x .place) (x .second)
+unfolding verdictLine
+line-estimate v x k = ap (λ (y : Verdict). verdictLine (verdictIn y)) k

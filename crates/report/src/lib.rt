@@ -1,11 +1,13 @@
 // The line that the checking program writes for a verdict.
 ghost use mathlib.Core.List.{_++_};
 ghost use Prim.Native.Nat.{_+_};
-ghost use Rattle.definitions.specs.Program.{threeNumbers, lineOf};
+ghost use Rattle.definitions.specs.Program.{threeNumbers, verdictLine};
 ghost use Rattle.analysis.specs.Answers.{verdictIn};
-ghost use Rattle.text.specs.Text.{textOf, Room, Reads};
+ghost use Rattle.report.specs.Text.{textOf, Room, Reads};
 use analysis::Verdict;
 use text::Text;
+
+pub mod text;
 
 // Three numbers with single spaces between, and a newline.
 fn with_three(t: Text, a: u64, b: u64, c: u64) -> Text
@@ -18,7 +20,7 @@ fn with_three(t: Text, a: u64, b: u64, c: u64) -> Text
 }
 
 pub fn line(v: Verdict) -> Text
-    ensures { λ r. ⌜ Reads (lineOf (verdictIn v)) 96 r ⌝ }
+    ensures { λ r. ⌜ Reads (verdictLine (verdictIn v)) 96 r ⌝ }
 {
     let t = text::empty();
     match v {

@@ -1,5 +1,5 @@
--- A walk over the members of a set by `first` and `rest`: what is left of the set gives the answer of the whole. Each premise of the loop's laws
--- is a fact that the code has: n is what `first` gives, b what the test gives there, t what `rest` gives. Assumes nothing.
+-- A walk over the members of a set by `lowest` and `without_lowest`: what is left of the set gives the answer of the whole. Each premise of the loop's laws
+-- is a fact that the code has: n is what `lowest` gives, b what the test gives there, t what `without_lowest` gives. Assumes nothing.
 use mathlib.Core.Path.{_≡_, refl, sym, ap, subst, _∙_}
 use mathlib.Core.Bool.{Bool, true, false}
 use mathlib.Core.Logic.{_⊎_, inl, inr, ⊎-elim}
@@ -13,84 +13,95 @@ use borrow.Author.Tests.{not-true, not-false as not-not}
 use lib.Dec.{T}
 use lib.Bits.{bitAnd, and-zero-l, and-le-r}
 use lib.Count.{trailingZeros, trailing-of-zero}
-use Rattle.definitions.specs.Bounded.{_and_, _or_, _isnt_}
-use Rattle.definitions.specs.Sets.{has, forEach, forSome, lowest}
-use Rattle.definitions.proofs.Bounded.{and-iff, or-iff, isnt-iff, true-of, of-true, false-of, not-false, same-test}
-use Rattle.definitions.proofs.Sets.{has-none, has-rest, low-set, lowest-empty, lowest-word, forEach-iff, forSome-iff}
-use Rattle.sets.specs.Lowest.{firstOf, RestOf}
+use Rattle.definitions.specs.Bounded.{_and_, _or_, _isnt_, someIf, firstBelow}
+use Rattle.definitions.specs.Sets.{has, forEach, forSome}
+use Rattle.definitions.proofs.Bounded.{and-iff, or-iff, isnt-iff, true-of, of-true, false-of, not-false, same-test, none-fault, each-none as none-below, first-stop}
+use Rattle.definitions.proofs.Sets.{has-none, has-rest, low-clear, low-set, forEach-iff, forSome-iff}
+use Rattle.sets.specs.Lowest.{lowestOf, WithoutLowest}
+use Rattle.sets.specs.Names.{NamesOnly}
 
--- ---- `first` and `rest`
+-- ---- `lowest` and `without_lowest`
 
 some-or : Option ℕ → ℕ
 some-or o = elim o [ none ↦ 64 | some n ↦ n ]
 
-pub first-word : (s : ℕ) → s < 2 ^ 64 → trailingZeros 64 s ≡ firstOf s
-unfolding firstOf some-or
-first-word s h =
-    ⊎-elim (λ e. ap (trailingZeros 64) e ∙ trailing-of-zero 64 ∙ sym (ap some-or (lowest-empty s e)))
-    (λ p. sym (ap some-or (lowest-word s h (λ e. omega arith)))) (eq-zero-or-pos s)
+pub lowest-word : (s : ℕ) → s < 2 ^ 64 → trailingZeros 64 s ≡ lowestOf s
+unfolding lowestOf some-or
+lowest-word s h = ⊎-elim empty full (eq-zero-or-pos s)
+  where
+    test : ℕ → Option ℕ
+    test n = someIf (has s n) n
 
-pub first-lowest : (s n : ℕ) → s < 2 ^ 64 → (s ≡ 0 → ⊥) → n ≡ firstOf s → some n ≡ lowest s (λ m. true)
-first-lowest s n h z e = ap some (e ∙ sym (first-word s h)) ∙ sym (lowest-word s h z)
+    empty : s ≡ 0 → trailingZeros 64 s ≡ some-or (firstBelow 64 test)
+    empty e =
+        ap (trailingZeros 64) e ∙ trailing-of-zero 64
+        ∙ sym (ap some-or (none-below test 64 (λ n l. none-fault (has s n) n (not-false (ap (λ (x : ℕ). has x n) e ∙ has-none n)))))
 
-pub rest-word : (s d : ℕ) → s < 2 ^ 64 → d < 2 ^ 64 → (d + 1) % 2 ^ 64 ≡ s → RestOf s (bitAnd s d)
+    full : 0 < s → trailingZeros 64 s ≡ some-or (firstBelow 64 test)
+    full p =
+        let low = low-set 64 s p h in
+        sym (ap some-or (first-stop test 64 (low .0)
+        (none-below test (trailingZeros 64 s) (λ i l. none-fault (has s i) i (not-false (low-clear 64 s i l))))
+        (ap (λ (b : Bool). someIf b (trailingZeros 64 s)) (low .1))))
+
+pub rest-word : (s d : ℕ) → s < 2 ^ 64 → d < 2 ^ 64 → (d + 1) % 2 ^ 64 ≡ s → WithoutLowest s (bitAnd s d)
 unfolding _and_
 rest-word s d h k e = ⊎-elim empty full (eq-zero-or-pos s)
   where
-    empty : s ≡ 0 → RestOf s (bitAnd s d)
+    empty : s ≡ 0 → WithoutLowest s (bitAnd s d)
     empty z =
         record {
           members = λ m.
               ap (λ (x : ℕ). has (bitAnd x d) m) z ∙ ap (λ (x : ℕ). has x m) (and-zero-l d) ∙ has-none m
-              ∙ sym (ap (λ (b : Bool). b and firstOf s isnt m) (ap (λ (x : ℕ). has x m) z ∙ has-none m));
+              ∙ sym (ap (λ (b : Bool). b and lowestOf s isnt m) (ap (λ (x : ℕ). has x m) z ∙ has-none m));
           less = λ p. absurd (omega arith);
         }
 
-    full : 0 < s → RestOf s (bitAnd s d)
+    full : 0 < s → WithoutLowest s (bitAnd s d)
     full p =
         let q : d ≡ s - 1 = omega arith in
         record {
           members = λ m.
-              ap (λ (x : ℕ). has (bitAnd s x) m) q ∙ has-rest s m p h ∙ ap (λ (x : ℕ). has s m and x isnt m) (first-word s h);
+              ap (λ (x : ℕ). has (bitAnd s x) m) q ∙ has-rest s m p h ∙ ap (λ (x : ℕ). has s m and x isnt m) (lowest-word s h);
           less = λ _. lt-of-le-of-lt (and-le-r s d) (omega arith);
         }
 
 -- ---- the walk
 
-pub first-in : (s n : ℕ) → s < 2 ^ 64 → (s ≡ 0 → ⊥) → n ≡ firstOf s → T (has s n)
-first-in s n h z e =
-    subst (λ (m : ℕ). T (has s m)) (first-word s h ∙ sym e) (of-true (low-set 64 s (omega arith) h .1))
+pub lowest-in : (s n : ℕ) → s < 2 ^ 64 → (s ≡ 0 → ⊥) → n ≡ lowestOf s → T (has s n)
+lowest-in s n h z e =
+    subst (λ (m : ℕ). T (has s m)) (lowest-word s h ∙ sym e) (of-true (low-set 64 s (omega arith) h .1))
 
-pub first-below : (s n : ℕ) → s < 2 ^ 64 → (s ≡ 0 → ⊥) → n ≡ firstOf s → n < 64
-first-below s n h z e = subst (λ (m : ℕ). m < 64) (first-word s h ∙ sym e) (low-set 64 s (omega arith) h .0)
+pub lowest-below : (s n : ℕ) → s < 2 ^ 64 → (s ≡ 0 → ⊥) → n ≡ lowestOf s → n < 64
+lowest-below s n h z e = subst (λ (m : ℕ). m < 64) (lowest-word s h ∙ sym e) (low-set 64 s (omega arith) h .0)
 
-pub walk-less : (s t : ℕ) → (s ≡ 0 → ⊥) → RestOf s t → t < s
+pub walk-less : (s t : ℕ) → (s ≡ 0 → ⊥) → WithoutLowest s t → t < s
 walk-less s t z r = r .less (omega arith)
 
 -- another member than the lowest is in the rest
-pub rest-keeps : (s t n : ℕ) → RestOf s t → n ≡ firstOf s → (j : ℕ) → (j ≡ n → ⊥) → T (has s j) → T (has t j)
+pub rest-keeps : (s t n : ℕ) → WithoutLowest s t → n ≡ lowestOf s → (j : ℕ) → (j ≡ n → ⊥) → T (has s j) → T (has t j)
 rest-keeps s t n r e j k u =
-    of-true (r .members j ∙ true-of (has s j and firstOf s isnt j)
-    (and-iff (has s j) (firstOf s isnt j) .1 (u, isnt-iff (firstOf s) j .1 (λ (l : firstOf s ≡ j). k (sym (e ∙ l))))))
+    of-true (r .members j ∙ true-of (has s j and lowestOf s isnt j)
+    (and-iff (has s j) (lowestOf s isnt j) .1 (u, isnt-iff (lowestOf s) j .1 (λ (l : lowestOf s ≡ j). k (sym (e ∙ l))))))
 
--- what holds of the lowest member and of each member of the rest holds of each member, and back
-rest-each : (s t n : ℕ) → n ≡ firstOf s → RestOf s t → (Q : ℕ → Type 0) → Q n → ((j : ℕ) → T (has t j) → Q j) → (j : ℕ) → T (has s j) → Q j
+-- what is true of the lowest member and of each other member is true of each member, and back
+rest-each : (s t n : ℕ) → n ≡ lowestOf s → WithoutLowest s t → (Q : ℕ → Type 0) → Q n → ((j : ℕ) → T (has t j) → Q j) → (j : ℕ) → T (has s j) → Q j
 rest-each s t n e r Q q f j u = pick (ℕ-discrete n j)
   where
     pick : Dec (n ≡ j) → Q j
     pick (yes k) = subst Q k q
     pick (no k) = f j (rest-keeps s t n r e j (λ l. k (sym l)) u)
 
-rest-in : (s t : ℕ) → RestOf s t → (j : ℕ) → T (has t j) → T (has s j)
-rest-in s t r j u = and-iff (has s j) (firstOf s isnt j) .0 (of-true (sym (r .members j) ∙ true-of (has t j) u)) .0
+rest-in : (s t : ℕ) → WithoutLowest s t → (j : ℕ) → T (has t j) → T (has s j)
+rest-in s t r j u = and-iff (has s j) (lowestOf s isnt j) .0 (of-true (sym (r .members j) ∙ true-of (has t j) u)) .0
 
-module _ (p : ℕ → Bool) (left t n : ℕ) (fit : left < 2 ^ 64) (some-left : left ≡ 0 → ⊥) (e : n ≡ firstOf left) (r : RestOf left t) where
+module _ (p : ℕ → Bool) (left t n : ℕ) (fit : left < 2 ^ 64) (some-left : left ≡ 0 → ⊥) (e : n ≡ lowestOf left) (r : WithoutLowest left t) where
   -- a test at each member, or at some member: at the lowest, and over the rest
   pub split-each : forEach left p ≡ (p n and forEach t p)
   split-each =
       same-test (forEach left p) (p n and forEach t p)
       (λ u. and-iff (p n) (forEach t p) .1 (
-        forEach-iff left p .0 u n (first-below left n fit some-left e) (first-in left n fit some-left e),
+        forEach-iff left p .0 u n (lowest-below left n fit some-left e) (lowest-in left n fit some-left e),
         forEach-iff t p .1 (λ j l v. forEach-iff left p .0 u j l (rest-in left t r j v)),
       ))
       (λ u. let x = and-iff (p n) (forEach t p) .0 u in
@@ -102,7 +113,7 @@ module _ (p : ℕ → Bool) (left t n : ℕ) (fit : left < 2 ^ 64) (some-left : 
       (λ u. let x = forSome-iff left p .0 u in
       or-iff (p n) (forSome t p) .1 (rest-each left t n e r (λ i. i < 64 → T (p i) → T (p n) ⊎ T (forSome t p)) (λ _. inl)
       (λ i h g y. inr (forSome-iff t p .1 (i, g, h, y))) (x .0) (x .2) (x .1) (x .3)))
-      (λ u. ⊎-elim (λ y. forSome-iff left p .1 (n, first-below left n fit some-left e, first-in left n fit some-left e, y))
+      (λ u. ⊎-elim (λ y. forSome-iff left p .1 (n, lowest-below left n fit some-left e, lowest-in left n fit some-left e, y))
       (λ v. let x = forSome-iff t p .0 v in forSome-iff left p .1 (x .0, x .1, rest-in left t r (x .0) (x .2), x .3)) (or-iff (p n) (forSome t p) .0 u))
 
 pub none-each : (p : ℕ → Bool) (left : ℕ) → left ≡ 0 → forEach left p ≡ true
@@ -121,11 +132,14 @@ pub record Left (s left : ℕ) : Type 0 where
 pub left-start : (s : ℕ) → s < 2 ^ 64 → Left s s
 left-start s h = record { fit = h; inside = λ j t. t }
 
-pub left-turn : (s left t : ℕ) → Left s left → (left ≡ 0 → ⊥) → RestOf left t → Left s t
+pub left-turn : (s left t : ℕ) → Left s left → (left ≡ 0 → ⊥) → WithoutLowest left t → Left s t
 left-turn s left t w z r = record { fit = lt-trans (walk-less left t z r) (w .fit); inside = λ j u. w .inside j (rest-in left t r j u) }
 
-pub left-in : (s left n : ℕ) → Left s left → (left ≡ 0 → ⊥) → n ≡ firstOf left → T (has s n)
-left-in s left n w z e = w .inside n (first-in left n (w .fit) z e)
+pub left-in : (s left n : ℕ) → Left s left → (left ≡ 0 → ⊥) → n ≡ lowestOf left → T (has s n)
+left-in s left n w z e = w .inside n (lowest-in left n (w .fit) z e)
+
+pub left-name : (s left n : ℕ) → NamesOnly s → Left s left → (left ≡ 0 → ⊥) → n ≡ lowestOf left → n < 60
+left-name s left n f w z e = f .below n (lowest-below left n (w .fit) z e) (left-in s left n w z e)
 
 -- what is left of s gives the answer that s gives
 pub record EachLeft (p : ℕ → Bool) (s left : ℕ) : Type 0 where
@@ -139,19 +153,19 @@ module _ (p : ℕ → Bool) (s : ℕ) where
   pub each-end : (left : ℕ) → EachLeft p s left → left ≡ 0 → true ≡ forEach s p
   each-end left w z = sym (none-each p left z) ∙ w .same
 
-  module _ (left n : ℕ) (b : Bool) (w : EachLeft p s left) (z : left ≡ 0 → ⊥) (e : n ≡ firstOf left) (is : b ≡ p n) where
+  module _ (left n : ℕ) (b : Bool) (w : EachLeft p s left) (z : left ≡ 0 → ⊥) (e : n ≡ lowestOf left) (is : b ≡ p n) where
     pub each-stop : b ≡ false → false ≡ forEach s p
     each-stop f =
         sym
         (false-of (forEach left p)
-        (λ t. not-false (sym is ∙ f) (forEach-iff left p .0 t n (first-below left n (w .there .fit) z e) (first-in left n (w .there .fit) z e))))
+        (λ t. not-false (sym is ∙ f) (forEach-iff left p .0 t n (lowest-below left n (w .there .fit) z e) (lowest-in left n (w .there .fit) z e))))
         ∙ w .same
 
-    pub each-turn : (t : ℕ) → RestOf left t → b ≡ true → EachLeft p s t
+    pub each-turn : (t : ℕ) → WithoutLowest left t → b ≡ true → EachLeft p s t
     unfolding _and_
     each-turn t r q = record {
       there = left-turn s left t (w .there) z r;
       same = sym (split-each p left t n (w .there .fit) z e r ∙ ap (λ (x : Bool). x and forEach t p) (sym is ∙ q)) ∙ w .same;
     }
 
-pub ruleset walks = (needs, not-true, not-not, first-below, walk-less, each-start, each-turn, each-stop, each-end)
+pub ruleset walks = (needs, not-true, not-not, lowest-below, walk-less, each-start, each-turn, each-stop, each-end)

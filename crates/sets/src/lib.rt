@@ -1,87 +1,67 @@
-// Sets of names: a u64 holds name n where its binary digit n is 1. No call asks anything of its arguments.
+// Sets of names: a u64 has name n where its binary digit n is 1. No call asks anything of its arguments.
 ghost use mathlib.Core.Path.{_≡_};
-ghost use mathlib.Core.Bool.{true, not};
 ghost use Prim.Native.Nat.{ℕ, _<_};
-ghost use Rattle.definitions.specs.Bounded.{_and_, _or_, _is_, _upto_};
+ghost use Rattle.definitions.specs.Bounded.{_and_, _or_, _is_};
 ghost use Rattle.definitions.specs.Sets as names;
-ghost use Rattle.sets.specs.Lowest.{lowestOf, firstOf, RestOf};
+ghost use Rattle.sets.specs.Lowest.{lowestOf, WithoutLowest};
 
 // The paper's "name's number". A held name, a number with a stamp, is another type.
 pub struct NameNo(pub u8);
 
-// The lowest member that is asked for, if there is one.
-pub enum Lowest {
-    NoMember,
-    Member(NameNo),
+// Binary digit n of s is 1: never where n is above 63.
+pub fn has_digit(s: u64, n: u8) -> bool
+    ensures { λ r. ⌜ r ≡ names.has s n ⌝ }
+{
+    if n < 64 { (s >> n) & 1 == 1 } else { false }
+}
+
+// s with its binary digit n set to 1: s itself where n is above 63.
+pub fn set_digit(s: u64, n: u8) -> u64
+    ensures { λ r. ⌜ ((m : ℕ) → m < 64 → names.has r m ≡ (names.has s m or n is m)) ⌝ }
+{
+    if n < 64 { s | (1 << n) } else { s }
 }
 
 // Name n is in s: never where n is above 63.
-pub fn has(s: u64, n: NameNo) -> bool
+pub fn contains(s: u64, n: NameNo) -> bool
     ensures { λ r. ⌜ r ≡ names.has s (n .0) ⌝ }
 {
-    if n.0 < 64 { (s >> n.0) & 1 == 1 } else { false }
+    has_digit(s, n.0)
 }
 
 // Every member of a is in b.
-pub fn within(a: u64, b: u64) -> bool
+pub fn is_subset(a: u64, b: u64) -> bool
     ensures { λ r. ⌜ r ≡ names.within a b ⌝ }
 {
     a & !b == 0
 }
 
 // a and b share a member.
-pub fn meets(a: u64, b: u64) -> bool
+pub fn intersects(a: u64, b: u64) -> bool
     ensures { λ r. ⌜ r ≡ names.meets a b ⌝ }
 {
     a & b != 0
 }
 
-// The lowest member of s, or 64 where s has none. `first` and `rest` walk over a set with no search.
-pub fn first(s: u64) -> NameNo
-    ensures { λ r. ⌜ r .0 ≡ firstOf s ⌝ }
+// The lowest member of s, or 64 where s has none. `lowest` and `without_lowest` walk over a set with no search.
+pub fn lowest(s: u64) -> NameNo
+    ensures { λ r. ⌜ r .0 ≡ lowestOf s ⌝ }
 {
     NameNo(u64::trailing_zeros(s) as u8)
 }
 
 // s without its lowest member.
-pub fn rest(s: u64) -> u64
-    ensures { λ r. ⌜ RestOf s r ⌝ }
+pub fn without_lowest(s: u64) -> u64
+    ensures { λ r. ⌜ WithoutLowest s r ⌝ }
 {
     s & std::num::wrapping_sub_u64(s, 1)
 }
 
-// The lowest member of s.
-pub fn lowest_member(s: u64) -> Lowest
-    ensures { λ r. ⌜ lowestOf r ≡ names.lowest s (λ n. true) ⌝ }
-{
-    if s == 0 {
-        return Lowest::NoMember;
-    }
-    Lowest::Member(first(s))
-}
-
-// The lowest member of a that b lacks.
-pub fn lowest_missing(a: u64, b: u64) -> Lowest
-    ensures { λ r. ⌜ lowestOf r ≡ names.lowest a (λ n. not (names.has b n)) ⌝ }
-{
-    lowest_member(a & !b)
-}
-
-// The lowest member of s from a number on.
-pub fn next_member(s: u64, from: NameNo) -> Lowest
-    ensures { λ r. ⌜ lowestOf r ≡ names.lowest s (λ n. from .0 upto n) ⌝ }
-{
-    if 64 <= from.0 {
-        return Lowest::NoMember;
-    }
-    lowest_member((s >> from.0) << from.0)
-}
-
 // s with name n put in: s itself where n is above 63.
-pub fn with(s: u64, n: NameNo) -> u64
+pub fn insert(s: u64, n: NameNo) -> u64
     ensures { λ r. ⌜ ((m : ℕ) → m < 64 → names.has r m ≡ (names.has s m or n .0 is m)) ⌝ }
 {
-    if n.0 < 64 { s | (1 << n.0) } else { s }
+    set_digit(s, n.0)
 }
 
 // The members of a and those of b.
@@ -92,7 +72,7 @@ pub fn union(a: u64, b: u64) -> u64
 }
 
 // The members that s and t share.
-pub fn shared(s: u64, t: u64) -> u64
+pub fn intersection(s: u64, t: u64) -> u64
     ensures { λ r. ⌜ ((m : ℕ) → names.has r m ≡ (names.has s m and names.has t m)) ⌝ }
 {
     s & t

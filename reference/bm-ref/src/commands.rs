@@ -1,4 +1,5 @@
-//! The commands: each gives the text to print.
+//! The commands: each gives the text to print. All files that a command names
+//! are read before it answers.
 
 use bm::cases::{self, Case};
 use bm::model::Model;
@@ -7,36 +8,38 @@ use bm::step;
 use bm::text::{NameList, assemble, disassemble};
 use bm::{Cause, Estimate, Refusal, ShutOff, Verdict, calls, least, listing};
 
-use crate::{Failure, files};
-
-type Answer = Result<String, Failure>;
+use crate::args::Given;
+use crate::failure::{Answer, Failure};
+use crate::files;
+use crate::table::{FROM, MISSING, STATE};
 
 fn line(text: impl std::fmt::Display) -> Answer {
     Ok(format!("{text}\n"))
 }
 
-fn verdict_line(verdict: Verdict, missing: bool) -> Answer {
+fn verdict_line(verdict: Verdict, given: &Given) -> Answer {
     match verdict {
-        Verdict::Broken(broken) if missing => line(broken.with_missing()),
+        Verdict::Broken(broken) if given.has(&MISSING) => line(broken.with_missing()),
         verdict => line(verdict),
     }
 }
 
-pub fn check(model: &str, estimate: &str, missing: bool) -> Answer {
-    verdict_line(calls::check(&files::image(model)?, &files::image(estimate)?), missing)
+pub fn check(given: &Given) -> Answer {
+    let (model, estimate) = given.images()?;
+    verdict_line(calls::check(&model, &estimate), given)
 }
 
-pub fn shut_off(model: &str, estimate: &str, box_no: &str, missing: bool) -> Answer {
-    let box_no: u32 = box_no.parse().map_err(|_| Failure::Usage)?;
-    let (model, estimate) = (files::image(model)?, files::image(estimate)?);
+pub fn shut_off(given: &Given) -> Answer {
+    let box_no = given.number(2, u32::MAX.into())?;
+    let (model, estimate) = given.images()?;
     match calls::shut_off(&model, &estimate, box_no as usize) {
-        ShutOff::Not(verdict) => verdict_line(verdict, missing),
+        ShutOff::Not(verdict) => verdict_line(verdict, given),
         answer => line(answer),
     }
 }
 
-pub fn refused_block(model: &str, estimate: &str) -> Answer {
-    let (model, estimate) = (files::image(model)?, files::image(estimate)?);
+pub fn refused_block(given: &Given) -> Answer {
+    let (model, estimate) = given.images()?;
     let part = calls::refused_block(&model, &estimate);
     let whose = match calls::check(&model, &estimate) {
         Verdict::RefusedEstimate(_) if !part.is_empty() => (&estimate, "estimate"),
@@ -54,100 +57,122 @@ fn refused_estimate(refusal: Refusal) -> String {
     Verdict::RefusedEstimate(refusal).to_string()
 }
 
-pub fn read(model: &str) -> Answer {
-    match Model::read(&files::image(model)?) {
+pub fn read(given: &Given) -> Answer {
+    match Model::read(&given.image(0)?) {
         Err(refusal) => line(refused_model(refusal)),
         Ok(model) => Ok(listing::model(&model)),
     }
 }
 
-pub fn read_estimate(model: &str, estimate: &str) -> Answer {
-    let model = match Model::read(&files::image(model)?) {
+pub fn read_estimate(given: &Given) -> Answer {
+    let (model, estimate) = given.images()?;
+    let model = match Model::read(&model) {
         Err(refusal) => return line(refused_model(refusal)),
         Ok(model) => model,
     };
-    match Estimate::read(&model, &files::image(estimate)?) {
+    match Estimate::read(&model, &estimate) {
         Err(refusal) => line(refused_estimate(refusal)),
         Ok(read) => Ok(listing::estimate(&model, &read)),
     }
 }
 
-/// The files of `--from` and `--state`.
-fn run_options<'a>(options: &[&'a str]) -> Result<(Option<&'a str>, Option<&'a str>), Failure> {
-    let (mut from, mut to) = (None, None);
-    for option in options.chunks(2) {
-        let place = match option {
-            ["--from", _] => &mut from,
-            ["--state", _] => &mut to,
-            _ => return Err(Failure::Usage),
-        };
-        if place.replace(option[1]).is_some() {
-            return Err(Failure::Usage);
-        }
-    }
-    Ok((from, to))
-}
-
-pub fn run(model: &str, moves: &str, options: &[&str]) -> Answer {
-    let (from, to) = run_options(options)?;
-    let moves = files::moves(moves)?;
-    let model = match Model::read(&files::image(model)?) {
+pub fn run(given: &Given) -> Answer {
+    let (model, moves) = (given.image(0)?, files::moves(given.arg(1))?);
+    let from = given.file(&FROM).map(files::words).transpose()?;
+    let model = match Model::read(&model) {
         Err(refusal) => return line(refused_model(refusal)),
         Ok(model) => model,
     };
-    let mut words = match from {
-        Some(path) => files::words(path)?,
-        None => vec![0; STATE_WORDS],
-    };
+    let starts = from.is_none();
+    let mut words = from.unwrap_or_else(|| vec![0; STATE_WORDS]);
     let mut answers = vec![0; moves.len()];
-    let started = if from.is_none() { state::start(&model, &mut words) } else { Ok(()) };
+    let started = if starts { state::start(&model, &mut words) } else { Ok(()) };
     let ran = started.and_then(|()| step::run(&model, &mut words, &moves, &mut answers));
     if let Err(cause) = ran {
         return line(format_args!("refused {}", Cause::plain(cause)));
     }
-    if let Some(path) = to {
+    if let Some(path) = given.file(&STATE) {
         files::write(path, &files::word_bytes(&words))?;
     }
     Ok(answers.iter().map(|answer| format!("{answer}\n")).collect())
 }
 
-pub fn least(model: &str, estimate: &str) -> Answer {
-    let model = Model::read(&files::image(model)?).map_err(refused_model)?;
+/// The number of a call's answer.
+fn number(answer: Result<(), Refusal>) -> u8 {
+    answer.map_or_else(|refusal| refusal.cause.number(), |()| 0)
+}
+
+pub fn steps(given: &Given) -> Answer {
+    let stamp = given.number(2, u32::MAX.into())? as u32;
+    let (model, moves) = (given.image(0)?, files::moves(given.arg(1))?);
+    let boxes = Model::read(&model).map_or(0, |model| model.boxes().len());
+    let mut words = vec![0; STATE_WORDS];
+    let begin = |words: &mut [u32]| {
+        let answer = number(calls::start(&model, words));
+        words[0] = stamp;
+        format!("start answer {answer}{}\n", listing::threads(boxes, words))
+    };
+    let mut text = begin(&mut words);
+    for mv in &moves {
+        let answer = number(calls::step(&model, &mut words, *mv));
+        let numbers = mv.numbers().map(|number| format!(" {number}")).concat();
+        let left = listing::threads(boxes, &words);
+        text.push_str(&format!("move{numbers} answer {answer}{left}\n"));
+    }
+    text.push_str(&begin(&mut words));
+    let mut answers = vec![0; moves.len()];
+    let answer = number(calls::run(&model, &mut words, &moves, &mut answers));
+    let answers: String = answers.iter().map(|answer| format!(" {answer}")).collect();
+    let left = listing::threads(boxes, &words);
+    Ok(format!("{text}run answer {answer} answers{answers}{left}\n"))
+}
+
+/// The failure that a command cannot go on with a refused image.
+fn unusable(path: &str, refused: String) -> Failure {
+    Failure::Content(format!("{path}: {refused}"))
+}
+
+/// The model of the first argument, which must not be refused.
+fn accepted_model(given: &Given) -> Result<Model, Failure> {
+    let read = Model::read(&given.image(0)?);
+    read.map_err(|refusal| unusable(given.arg(0), refused_model(refusal)))
+}
+
+pub fn least(given: &Given) -> Answer {
+    let model = accepted_model(given)?;
     let image = least::least(&model).image(model.boxes().len());
-    files::write(estimate, &image)?;
+    files::write(given.arg(1), &image)?;
     Ok(String::new())
 }
 
-pub fn asm(text: &str, model: &str, estimate: Option<&str>) -> Answer {
-    let said = assemble(&files::text(text)?).map_err(|error| format!("{text}: {error}"))?;
+pub fn asm(given: &Given) -> Answer {
+    let path = given.arg(0);
+    let said = assemble(&files::text(path)?).map_err(|error| files::text_error(path, error))?;
     let image = said.model.image();
     if let Err(refusal) = Model::read(&image) {
-        return Err(Failure::Told(format!("{text}: {}", refused_model(refusal))));
+        return Err(unusable(path, refused_model(refusal)));
     }
-    if let Some(path) = estimate {
-        let Some(estimate) = &said.estimate else {
-            return Err(Failure::Told(format!("{text}: expected an estimate section at the end")));
-        };
-        files::write(path, &estimate.image(said.model.boxes.len()))?;
+    if let Some(to) = given.may(2) {
+        let estimate = said.estimate.map_err(|error| files::text_error(path, error))?;
+        files::write(to, &estimate.image(said.model.boxes.len()))?;
     }
-    files::write(model, &image)?;
+    files::write(given.arg(1), &image)?;
     Ok(String::new())
 }
 
-pub fn dis(model: &str, estimate: Option<&str>) -> Answer {
-    let model = Model::read(&files::image(model)?).map_err(refused_model)?;
-    let estimate = match estimate {
-        None => None,
-        Some(path) => Some(Estimate::read(&model, &files::image(path)?).map_err(refused_estimate)?),
-    };
+pub fn dis(given: &Given) -> Answer {
+    let image = given.may(1).map(|_| given.image(1)).transpose()?;
+    let model = accepted_model(given)?;
+    let estimate = image.map(|image| Estimate::read(&model, &image)).transpose();
+    let estimate = estimate.map_err(|refusal| unusable(given.arg(1), refused_estimate(refusal)))?;
     let names = NameList::numbered(model.kinds().len());
     Ok(disassemble(&model, estimate.as_ref(), &names))
 }
 
 /// Writes cases into folders, and the list of their sorts.
-pub fn gen_cases(seed: &str, count: &str, dir: &str) -> Answer {
-    let number = |text: &str| text.parse::<u64>().map_err(|_| Failure::Usage);
-    let (seed, count) = (number(seed)?, number(count)?);
+pub fn gen_cases(given: &Given) -> Answer {
+    let (seed, count) = (given.number(0, u64::MAX)?, given.number(1, u64::MAX)?);
+    let dir = given.arg(2);
     let mut index = String::new();
     for at in 0..count {
         let case = cases::case(seed, at);
@@ -160,7 +185,7 @@ pub fn gen_cases(seed: &str, count: &str, dir: &str) -> Answer {
     Ok(String::new())
 }
 
-fn write_case(folder: &str, case: &Case) -> Result<(), String> {
+fn write_case(folder: &str, case: &Case) -> Result<(), Failure> {
     files::folder(folder)?;
     files::write(&format!("{folder}/model.blk"), &case.model)?;
     files::write(&format!("{folder}/estimate.blk"), &case.estimate)?;

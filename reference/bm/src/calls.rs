@@ -71,6 +71,16 @@ pub fn check(model: &[u8], estimate: &[u8]) -> Verdict {
     of_accepted(model, estimate, |_, _| Verdict::Accepted).unwrap_or_else(|verdict| verdict)
 }
 
+/// Both images, read: no clause is tried.
+pub fn read_estimate(model: &[u8], estimate: &[u8]) -> Verdict {
+    let model = match Model::read(model) {
+        Err(refusal) => return Verdict::RefusedModel(refusal),
+        Ok(read) => read,
+    };
+    let read = Estimate::read(&model, estimate);
+    read.err().map_or(Verdict::Accepted, Verdict::RefusedEstimate)
+}
+
 /// The question whether a box is shut off.
 pub fn shut_off(model: &[u8], estimate: &[u8], box_no: usize) -> ShutOff {
     let asked = of_accepted(model, estimate, |model, estimate| {

@@ -4,6 +4,8 @@ use std::fmt::Write;
 
 use crate::estimate::Estimate;
 use crate::model::Model;
+use crate::names::Held;
+use crate::state::{Record, Thread, records};
 use crate::write::line_record;
 
 /// The listing of a model:
@@ -67,6 +69,31 @@ pub fn estimate(model: &Model, estimate: &Estimate) -> String {
         }
     }
     text
+}
+
+/// The threads of a state's first boxes: for each box `box NUMBER STAMP`, for
+/// each of its threads `line NUMBER`, and for each name that a thread has bound
+/// `name NAME NUMBER STAMP`, all with a space before, on one line.
+pub fn threads(boxes: usize, words: &[u32]) -> String {
+    let mut text = String::new();
+    let boxes = records(words).map_or(&[][..], |records| &records[..boxes]);
+    for (box_no, record) in boxes.iter().enumerate() {
+        let record = Record(record);
+        text.push_str(&format!(" box {box_no} {}", record.stamp()));
+        text.extend(record.threads().map(thread));
+    }
+    text
+}
+
+/// A thread's line and what it has bound.
+fn thread(thread: Thread<'_>) -> String {
+    let Thread([line, bindings @ ..]) = thread;
+    let bound = bindings.iter().enumerate().filter(|(_, word)| **word != 0);
+    let bound = bound.map(|(name, word)| {
+        let held = Held(*word);
+        format!(" name {name} {} {}", held.name(), held.stamp())
+    });
+    format!(" line {line}{}", bound.collect::<String>())
 }
 
 fn put(text: &mut String, item: std::fmt::Arguments<'_>) {

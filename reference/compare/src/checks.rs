@@ -5,10 +5,12 @@ use std::hint::black_box;
 use bm::block::{self, BLOCK};
 use bm::cases::rng::Rng;
 
+use crate::report::{Part, Report};
 use crate::{proved, timing};
 
-/// How many images are tried.
-const IMAGES: u64 = 20_000;
+const CHECKS: Part = Part { name: "block check", number: 1 };
+/// How many images are tried, a case.
+const IMAGES: u64 = 2;
 
 /// The check of block `k`, or 0 where the image has no such block whole.
 fn expected(image: &[u8], k: usize) -> u64 {
@@ -17,21 +19,21 @@ fn expected(image: &[u8], k: usize) -> u64 {
     block.map_or(0, block::check)
 }
 
-/// The number of answers that differ.
-pub fn compare() -> u64 {
-    let mut differences = 0;
-    for case in 0..IMAGES {
-        let mut rng = Rng::for_case(7, case);
+pub fn compare(report: &mut Report) {
+    for case in 0..IMAGES * report.plan.cases {
+        let mut rng = report.begin(CHECKS, case);
         let len = rng.below(4 * BLOCK);
         let image: Vec<u8> = (0..len).map(|_| rng.word() as u8).collect();
         for k in [0, 1, 2, 3, 4, usize::MAX, usize::MAX / BLOCK] {
             let right = expected(&image, k);
-            differences += u64::from(proved::block_check(&image, k) != right);
-            differences += u64::from(proved::stepped_check(&image, k) != right);
+            let (table, stepped) =
+                (proved::block_check(&image, k), proved::stepped_check(&image, k));
+            report.call(table == right, || format!("check of block {k}: {table}, not {right}"));
+            report.call(stepped == right, || {
+                format!("check of block {k} step by step: {stepped}, not {right}")
+            });
         }
     }
-    println!("block check: {IMAGES} images, {} answers", IMAGES * 14);
-    differences
 }
 
 /// A plain loop over the words, as the format describes the check.

@@ -146,7 +146,8 @@ impl DamagedPair {
 
     /// Whole blocks fewer, or copies of the last block more, numbered on.
     fn blocks_more_or_fewer(&mut self) {
-        let (fewer, some, checked) = (self.rng.percent(50), self.rng.between(1, 3), self.rng.percent(80));
+        let (fewer, some, checked) =
+            (self.rng.percent(50), self.rng.between(1, 3), self.rng.percent(80));
         let image = self.either_image();
         if fewer {
             return image.truncate(image.len().saturating_sub(some * BLOCK));
@@ -175,7 +176,8 @@ impl DamagedPair {
         let kind = [kind::SITES, kind::LINES, kind::EPSILON, kind::KAPPA][self.rng.below(4)];
         let image = if kind <= kind::LINES { &mut self.model } else { &mut self.estimate };
         let (blocks, _) = image.as_chunks_mut::<BLOCK>();
-        let mut places: Vec<&mut [u8; BLOCK]> = blocks.iter_mut().filter(|block| block[2] == kind).collect();
+        let mut places: Vec<&mut [u8; BLOCK]> =
+            blocks.iter_mut().filter(|block| block[2] == kind).collect();
         self.rng.shuffle(&mut places);
         if let [one, other, ..] = places.as_mut_slice() {
             one[4..].swap_with_slice(&mut other[4..]);
@@ -280,7 +282,8 @@ impl DamagedPair {
             let records = block::Block(block).records().iter();
             records.map(|record| (usize::from(block[3]), *record))
         });
-        let lines: Vec<(usize, [u8; 16])> = lines.filter(|(_, record)| record[0] == operation).collect();
+        let lines: Vec<(usize, [u8; 16])> =
+            lines.filter(|(_, record)| record[0] == operation).collect();
         self.rng.pick(&lines)
     }
 

@@ -1,80 +1,101 @@
-//! The readers, the checker, the question and the refused block on generated images and on damaged ones.
+//! Generated pairs of images and damaged ones: the readers, the checker, the question and the refused block; then start, step and run
+//! on a lent state, which a refused model leaves as it was.
 
 use bm::block::BLOCK;
-use bm::cases::{self, Case};
 use bm::cases::rng::Rng;
-use bm::{Model, Refusal, ShutOff, Verdict, calls};
+use bm::cases::walk;
+use bm::cases::{self, Case};
+use bm::state::STATE_WORDS;
+use bm::{Model, Move, ShutOff, Verdict, calls};
 
 use crate::damage::DamagedPair;
-use crate::proved;
-use crate::tally::Tally;
+use crate::lent::Lent;
+use crate::report::{Part, Report};
+use crate::{packing, proved};
 
-/// How many generated cases are taken as they are, and how many images are damaged.
-const GENERATED: u64 = 2_000;
-const DAMAGED: u64 = 240_000;
+const GENERATED: Part = Part { name: "generated", number: 2 };
+const DAMAGED: Part = Part { name: "damaged", number: 3 };
 
-const ACCEPTED: u64 = 0;
-const BROKEN: u64 = 1;
-const REFUSED_MODEL: u64 = 2;
-const REFUSED_ESTIMATE: u64 = 3;
-const YES: u64 = 4;
-const NO: u64 = 5;
-const NO_BOX: u64 = 6;
+/// How many cases of the comparison go to one generated pair, and how many damaged pairs to one case.
+const CASES_A_PAIR: u64 = 5;
+const DAMAGED_A_CASE: u64 = 12;
+/// The lengths of the buffers that are lent for a refused block.
+const ROOMS: [usize; 4] = [BLOCK, BLOCK + 1, 0, BLOCK - 1];
+/// How many generated pairs are damaged.
+const POOL: u64 = 2_000;
 
-/// An answer as the proved library packs it.
-fn packed(tag: u64, number: u64, first: u64, second: u64) -> u64 {
-    tag + (number << 8) + (first << 16) + (second << 32)
+fn compare_refused_block(report: &mut Report, model: &[u8], estimate: &[u8], room: usize) {
+    let (mut proved, mut rust) = (vec![7; room], vec![7; room]);
+    let copied = proved::copy_refused_block(model, estimate, &mut proved);
+    let right = packing::copied(calls::refused_block(model, estimate), &mut rust);
+    let what = || format!("refused block into {room} bytes: {copied:#x}, not {right:#x}");
+    report.call((copied, proved) == (right, rust), what);
 }
 
-fn refusal(tag: u64, refusal: Refusal) -> u64 {
-    packed(tag, u64::from(refusal.cause.number()), u64::from(refusal.first), u64::from(refusal.second))
+/// Compares the calls on two images: the verdict, and the answer to the question.
+fn compare_pair(report: &mut Report, model: &[u8], estimate: &[u8], h: u32) -> (Verdict, ShutOff) {
+    let checked = calls::check(model, estimate);
+    let asked = calls::shut_off(model, estimate, h as usize);
+    compare_refused_block(report, model, estimate, ROOMS[h as usize % ROOMS.len()]);
+    let mut call = |what: &str, proved: u64, rust: u64| {
+        report.call(proved == rust, || format!("{what}: proved {proved:#x}, Rust {rust:#x}"));
+    };
+    call("read model", proved::read_model(model), packing::read(Model::read(model)));
+    let read = calls::read_estimate(model, estimate);
+    call("read estimate", proved::read_estimate(model, estimate), packing::verdict(read));
+    call("refused block", proved::refused_block(model, estimate), packing::refused_block(checked));
+    call("check", proved::check(model, estimate), packing::verdict(checked));
+    call("shut off", proved::shut_off(model, estimate, h), packing::question(asked));
+    (checked, asked)
 }
 
-fn verdict(verdict: Verdict) -> u64 {
-    match verdict {
-        Verdict::Accepted => ACCEPTED,
-        Verdict::Broken(broken) => packed(BROKEN, broken.clause.into(), broken.box_no as u64, broken.record as u64),
-        Verdict::RefusedModel(why) => refusal(REFUSED_MODEL, why),
-        Verdict::RefusedEstimate(why) => refusal(REFUSED_ESTIMATE, why),
+/// The state with which a case begins: its own words, or what a start writes.
+fn begun(report: &mut Report, rng: &mut Rng, case: &Case) -> Lent {
+    match &case.words {
+        Some(words) => Lent::new(words.clone()),
+        None => Lent::started(report, rng, &case.model),
     }
 }
 
-fn answer(answer: ShutOff) -> u64 {
-    match answer {
-        ShutOff::Yes => YES,
-        ShutOff::No => NO,
-        ShutOff::NoBox => packed(NO_BOX, 12, 0, 0),
-        ShutOff::Not(why) => verdict(why),
+/// Compares generated cases as they are: their images, then each step of their moves, then the run of all of them.
+fn compare_generated(report: &mut Report) {
+    let seed = GENERATED.seed(report.plan);
+    for number in 0..report.plan.cases.div_ceil(CASES_A_PAIR) {
+        let mut rng = report.begin(GENERATED, number);
+        let case = cases::case(seed, number);
+        for h in [0, 1, 7, 8, u32::MAX] {
+            let _ = compare_pair(report, &case.model, &case.estimate, h);
+        }
+        let mut lent = begun(report, &mut rng, &case);
+        let mut again = Lent::new(lent.words().to_vec());
+        for mv in &case.moves {
+            let _ = lent.step(&case.model, *mv, report);
+        }
+        let _ = again.run(&case.model, &case.moves, case.moves.len(), report);
     }
 }
 
-/// The answers for one pair of images, and how many of the proved library's differ.
-struct Compared {
-    checked: Verdict,
-    asked: ShutOff,
-    differences: u64,
+/// A pair to be damaged, and a state that its moves left.
+struct Pooled {
+    case: Case,
+    words: Vec<u32>,
+    accepted: bool,
 }
 
-fn compared(model: &[u8], estimate: &[u8], h: u32) -> Compared {
-    let read = Model::read(model).err().map_or(0, |why| refusal(REFUSED_MODEL, why));
-    let (checked, asked) = (calls::check(model, estimate), calls::shut_off(model, estimate, h as usize));
-    let part = calls::refused_block(model, estimate);
-    let mut buffer = [0u8; BLOCK];
-    let written = proved::refused_block(model, estimate, &mut buffer) as usize;
-    let same = [
-        proved::read_model(model) == read,
-        proved::check(model, estimate) == verdict(checked),
-        proved::shut_off(model, estimate, h) == answer(asked),
-        buffer.get(..written) == Some(part),
-    ];
-    let differences = same.iter().filter(|same| !**same).count() as u64;
-    Compared { checked, asked, differences }
-}
+impl Pooled {
+    fn new(case: Case) -> Pooled {
+        let accepted = calls::check(&case.model, &case.estimate) == Verdict::Accepted;
+        let mut words = case.words.clone().unwrap_or_else(|| {
+            Model::read(&case.model)
+                .map_or_else(|_| vec![0; STATE_WORDS], |model| walk::start(&model))
+        });
+        let _ = calls::run(&case.model, &mut words, &case.moves, &mut vec![0; case.moves.len()]);
+        Pooled { case, words, accepted }
+    }
 
-/// Compares generated pairs as they are.
-fn compare_generated(pairs: &[Case]) -> u64 {
-    let asked = pairs.iter().flat_map(|case| [0, 1, 7, 8, u32::MAX].map(|h| (case, h)));
-    asked.map(|(case, h)| compared(&case.model, &case.estimate, h).differences).sum()
+    fn some_move(&self, rng: &mut Rng) -> Move {
+        rng.pick(&self.case.moves).unwrap_or(Move::new([0; 5]))
+    }
 }
 
 /// Mostly a box that the estimate's length allows.
@@ -85,29 +106,27 @@ fn some_box(rng: &mut Rng, case: &Case) -> u32 {
 }
 
 /// Compares damaged pairs, which come mostly from accepted ones.
-fn compare_damaged(pairs: &[Case]) -> (u64, Tally) {
-    let sound = pairs.iter().filter(|case| calls::check(&case.model, &case.estimate) == Verdict::Accepted);
-    let sound: Vec<&Case> = sound.collect();
-    let (mut found, mut tally) = (0, Tally::default());
-    for number in 0..DAMAGED {
-        let mut rng = Rng::for_case(13, number);
+fn compare_damaged(report: &mut Report) {
+    let seed = DAMAGED.seed(report.plan);
+    let pool: Vec<Pooled> =
+        (0..POOL).map(|number| Pooled::new(cases::case(seed, number))).collect();
+    let sound: Vec<&Pooled> = pool.iter().filter(|pooled| pooled.accepted).collect();
+    for number in 0..DAMAGED_A_CASE * report.plan.cases {
+        let mut rng = report.begin(DAMAGED, number);
         let any = rng.percent(10);
-        let case = if any { &pairs[rng.below(pairs.len())] } else { sound[rng.below(sound.len())] };
-        let h = some_box(&mut rng, case);
-        let DamagedPair { model, estimate, .. } = DamagedPair::damaged(rng, &case.model, &case.estimate);
-        let Compared { checked, asked, differences } = compared(&model, &estimate, h);
-        tally.note(checked, asked);
-        found += differences;
+        let pooled = if any { &pool[rng.below(pool.len())] } else { sound[rng.below(sound.len())] };
+        let (h, mv) = (some_box(&mut rng, &pooled.case), pooled.some_move(&mut rng));
+        let pair = DamagedPair::damaged(rng, &pooled.case.model, &pooled.case.estimate);
+        let (checked, asked) = compare_pair(report, &pair.model, &pair.estimate, h);
+        report.tally.verdicts.note(checked, asked);
+        let mut lent = Lent::new(pooled.words.clone());
+        let _ = lent.step(&pair.model, mv, report);
+        let _ = lent.run(&pair.model, &[mv, mv], 2, report);
+        lent.start(&pair.model, report);
     }
-    (found, tally)
 }
 
-/// The number of answers that differ, and of kinds of answer that came too seldom or too often.
-pub fn compare() -> (u64, u64) {
-    let pairs: Vec<Case> = (0..GENERATED).map(|number| cases::case(11, number)).collect();
-    let of_generated = compare_generated(&pairs);
-    let (of_damaged, tally) = compare_damaged(&pairs);
-    println!("images: {GENERATED} generated pairs, {DAMAGED} damaged ones, four calls each; the damaged ones:");
-    tally.print();
-    (of_generated + of_damaged, tally.faults())
+pub fn compare(report: &mut Report) {
+    compare_generated(report);
+    compare_damaged(report);
 }

@@ -2,18 +2,20 @@
 
 use std::hint::black_box;
 
+use bm::block::{self, BLOCK, WORDS};
 use bm::cases::k;
 use bm::cases::random::{self, Size};
 use bm::cases::rng::Rng;
 use bm::least::least;
 use bm::model::{Line, LineNo, Site};
-use bm::write::{Draft, DraftBox};
+use bm::write::{Draft, DraftBox, put_word};
 use bm::{Estimate, Model, NameKind, NameNo, NameSet, Verdict, calls, clauses};
 
-use crate::timing::{self, Times};
 use crate::proved;
+use crate::timing::{self, Measured};
 
 /// A model and an estimate, as images.
+#[derive(Clone)]
 struct Pair {
     name: String,
     model: Vec<u8>,
@@ -25,10 +27,37 @@ impl Pair {
         calls::check(&self.model, &self.estimate)
     }
 
-    fn bench_read(&self) {
-        let model = self.model.as_slice();
-        let times = timing::both(|| proved::read_model(black_box(model)), || Model::read(black_box(model)).is_ok());
-        timing::line(&format!("read model: {}", self.name), times);
+    fn bench_read(&self, measured: &mut Measured) {
+        let Pair { name, model, estimate } = self;
+        let times = timing::both(
+            || proved::read_model(black_box(model)),
+            || Model::read(black_box(model)).is_ok(),
+        );
+        measured.note(format!("read model: {name}"), times);
+        let times = timing::both(
+            || proved::read_estimate(black_box(model), black_box(estimate)),
+            || calls::read_estimate(black_box(model), black_box(estimate)),
+        );
+        measured.note(format!("read estimate: {name}"), times);
+    }
+
+    fn bench_refused_block(&self, measured: &mut Measured, what: &str) {
+        let Pair { name, model, estimate } = self;
+        let times = timing::both(
+            || proved::refused_block(black_box(model), black_box(estimate)),
+            || calls::refused_block(black_box(model), black_box(estimate)),
+        );
+        measured.note(format!("refused block, {what}: {name}"), times);
+    }
+
+    /// The pair with a word past the names of the estimate's last block: no refusal of a block comes later.
+    fn refused_late(&self) -> Pair {
+        let Pair { name, model, mut estimate } = self.clone();
+        let last = estimate.last_chunk_mut::<BLOCK>().expect("an image of blocks");
+        put_word(last, WORDS - 1, 1);
+        block::seal(last);
+        assert_eq!(calls::refused_block(&model, &estimate), &estimate[estimate.len() - BLOCK..]);
+        Pair { name, model, estimate }
     }
 
     fn bench_calls(&self, measured: &mut Measured) {
@@ -54,7 +83,8 @@ fn pairs(name: &str, draft: &Draft, change: impl FnOnce(&Model, &mut Estimate)) 
     change(&model, &mut estimate);
     let boxes = model.boxes().len();
     let broken = broken_late(&model, &estimate).image(boxes);
-    let accepted = Pair { name: name.to_string(), model: image.clone(), estimate: estimate.image(boxes) };
+    let accepted =
+        Pair { name: name.to_string(), model: image.clone(), estimate: estimate.image(boxes) };
     let broken = Pair { name: format!("{name}, broken late"), model: image, estimate: broken };
     assert_eq!(accepted.verdict(), Verdict::Accepted, "{name}");
     [accepted, broken]
@@ -138,11 +168,15 @@ fn most_inputs() -> Draft {
         let (on, other) = (NameNo(box_no), NameNo((box_no + 1) % 8));
         let received: Vec<NameNo> = (8 + box_no..60).step_by(8).map(NameNo).collect();
         let outputs = 123 - received.len();
-        let mut lines: Vec<Line> = (0..outputs).map(|at| Line::Output { on, of: other, next: after(at) }).collect();
+        let mut lines: Vec<Line> =
+            (0..outputs).map(|at| Line::Output { on, of: other, next: after(at) }).collect();
         let inputs = received.into_iter().enumerate();
         lines.extend(inputs.map(|(at, into)| Line::Input { on, into, next: after(outputs + at) }));
         lines.push(Line::Nil);
-        DraftBox { sites: vec![Site { subject: on, hidden: false, ty: NameSet::one(other) }], lines }
+        DraftBox {
+            sites: vec![Site { subject: on, hidden: false, ty: NameSet::one(other) }],
+            lines,
+        }
     });
     Draft { kinds: kinds.collect(), boxes: boxes.collect() }
 }
@@ -166,11 +200,16 @@ fn nearly_full(model: &Model, estimate: &mut Estimate) {
     }
 }
 
-fn all_pairs() -> Vec<Pair> {
+/// A typical model and the largest one.
+pub fn typical_and_largest() -> (Draft, Draft) {
     let mut rng = Rng::new(3);
     let typical = Size { names: 36, boxes: 4, lines: (40, 40), ..Size::typical(&mut rng) };
     let typical = random::draft(&mut rng, typical);
-    let largest = largest(&mut rng);
+    (typical, largest(&mut rng))
+}
+
+fn all_pairs() -> Vec<Pair> {
+    let (typical, largest) = typical_and_largest();
     let made = [
         pairs("K", &k::model(), |_, _| ()),
         pairs("typical", &typical, |_, _| ()),
@@ -182,39 +221,16 @@ fn all_pairs() -> Vec<Pair> {
     made.into_iter().flatten().collect()
 }
 
-/// The measurements of checks and questions.
-#[derive(Default)]
-struct Measured(Vec<(String, Times)>);
-
-impl Measured {
-    fn note(&mut self, name: String, times: Times) {
-        timing::line(&name, times);
-        self.0.push((name, times));
-    }
-
-    /// The entry for which a number is greatest.
-    fn greatest(&self, number: impl Fn(Times) -> f64) -> &(String, Times) {
-        let order = |one: &&(String, Times), other: &&(String, Times)| number(one.1).total_cmp(&number(other.1));
-        self.0.iter().max_by(order).expect("a measurement")
-    }
-
-    fn print_worst(&self) {
-        let (slowest, ratio) = self.greatest(Times::ratio);
-        let (longest, time) = self.greatest(|times| times.proved);
-        let (ratio, time) = (ratio.ratio(), time.proved / 1e6);
-        println!("worst: ratio {ratio:.2} at {slowest}; {time:.3} ms at {longest}");
-    }
-}
-
-pub fn bench() {
-    let mut measured = Measured::default();
+pub fn bench(measured: &mut Measured) {
     let mut read: Vec<u8> = Vec::new();
     for pair in all_pairs() {
         println!("{}: {}", pair.name, pair.verdict());
         if pair.model != read {
-            pair.bench_read();
+            pair.bench_read(measured);
+            pair.bench_refused_block(measured, "none");
+            pair.refused_late().bench_refused_block(measured, "the last");
         }
-        pair.bench_calls(&mut measured);
+        pair.bench_calls(measured);
         read = pair.model;
     }
     measured.print_worst();

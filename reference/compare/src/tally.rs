@@ -1,65 +1,260 @@
-//! How often each kind of answer came. A comparison that never saw some answer has not compared it.
+//! How often each kind of answer, move and state came. A comparison that never saw some kind has not compared it.
 
-use bm::{Refusal, ShutOff, Verdict};
+use bm::cases::change::Change;
+use bm::cases::odd::ODDITIES;
+use bm::cases::spoil::SPOILINGS;
+use bm::{Move, Refusal, ShutOff, Verdict};
 
-/// Each kind of answer is to come so often at least.
+use crate::runs::LENDINGS;
+
+/// Each kind is to come so often at least.
 const FEWEST: u64 = 1_000;
 /// Of a hundred verdicts, so many are to be acceptances at least, and so many alike at most.
 const ACCEPTED_IN_HUNDRED: u64 = 15;
 const ALIKE_IN_HUNDRED: u64 = 20;
 
-#[derive(Default)]
-pub struct Tally {
-    accepted: u64,
-    clauses: [u64; 9],
-    of_model: [u64; 9],
-    of_estimate: [u64; 5],
-    /// Yes, no, no such box.
-    question: [u64; 3],
+/// Kinds of one sort, and how often each came.
+pub struct Counts {
+    sort: &'static str,
+    kinds: Vec<(String, u64)>,
 }
 
-/// Counts one more of a kind whose numbers begin at 1.
-fn count(counts: &mut [u64], number: u8) {
-    counts[usize::from(number) - 1] += 1;
+impl Counts {
+    fn named<'a>(sort: &'static str, names: impl IntoIterator<Item = &'a str>) -> Counts {
+        let kinds = names.into_iter().map(|name| (name.to_string(), 0));
+        Counts { sort, kinds: kinds.collect() }
+    }
+
+    /// Kinds that have numbers, one after the other; 0 is what is not refused.
+    fn numbered(sort: &'static str, numbers: impl Iterator<Item = u8>) -> Counts {
+        Counts { sort, kinds: numbers.map(|number| (number.to_string(), 0)).collect() }
+    }
+
+    fn of_changes(sort: &'static str, changes: &[Change]) -> Counts {
+        Counts::named(sort, changes.iter().map(|change| change.name))
+    }
+
+    /// Counts one more of the kind at this place.
+    pub fn add(&mut self, place: usize) {
+        self.kinds[place].1 += 1;
+    }
+
+    fn counts(&self) -> impl Iterator<Item = u64> {
+        self.kinds.iter().map(|(_, count)| *count)
+    }
+
+    fn print(&self) {
+        let kinds = self.kinds.iter().map(|(name, count)| format!("{name}: {count}"));
+        println!("  {}: {}", self.sort, kinds.collect::<Vec<String>>().join(", "));
+    }
+
+    /// The kinds for which this holds of the count, each with its sort and count.
+    fn such(&self, holds: impl Fn(u64) -> bool) -> Vec<String> {
+        let kinds = self.kinds.iter().filter(|(_, count)| holds(*count));
+        kinds.map(|(name, count)| format!("{} {name} ({count})", self.sort)).collect()
+    }
 }
 
-fn refused(counts: &mut [u64], why: Refusal) {
-    count(counts, why.cause.number());
+/// The number of an answer: 0 for what is not refused.
+fn number(answer: Result<(), Refusal>) -> usize {
+    answer.err().map_or(0, |why| why.cause.number().into())
 }
 
-impl Tally {
+/// Verdicts and answers to the question, on damaged images.
+pub struct Verdicts {
+    accepted: Counts,
+    clauses: Counts,
+    of_model: Counts,
+    of_estimate: Counts,
+    question: Counts,
+}
+
+impl Verdicts {
+    fn new() -> Verdicts {
+        Verdicts {
+            accepted: Counts::named("estimates", ["accepted"]),
+            clauses: Counts::numbered("clause broken", 1..=9),
+            of_model: Counts::numbered("model refused", 1..=9),
+            of_estimate: Counts::numbered("estimate refused", 1..=5),
+            question: Counts::named("shut off", ["yes", "no", "no such box"]),
+        }
+    }
+
     pub fn note(&mut self, verdict: Verdict, answer: ShutOff) {
         match verdict {
-            Verdict::Accepted => self.accepted += 1,
-            Verdict::Broken(broken) => count(&mut self.clauses, broken.clause),
-            Verdict::RefusedModel(why) => refused(&mut self.of_model, why),
-            Verdict::RefusedEstimate(why) => refused(&mut self.of_estimate, why),
+            Verdict::Accepted => self.accepted.add(0),
+            Verdict::Broken(broken) => self.clauses.add(usize::from(broken.clause) - 1),
+            Verdict::RefusedModel(why) => self.of_model.add(number(Err(why)) - 1),
+            Verdict::RefusedEstimate(why) => self.of_estimate.add(number(Err(why)) - 1),
         }
         match answer {
-            ShutOff::Yes => self.question[0] += 1,
-            ShutOff::No => self.question[1] += 1,
-            ShutOff::NoBox => self.question[2] += 1,
+            ShutOff::Yes => self.question.add(0),
+            ShutOff::No => self.question.add(1),
+            ShutOff::NoBox => self.question.add(2),
             ShutOff::Not(_) => {}
         }
     }
 
-    fn verdicts(&self) -> impl Iterator<Item = u64> {
-        let parts: [&[u64]; 3] = [&self.clauses, &self.of_model, &self.of_estimate];
-        parts.into_iter().flatten().copied().chain([self.accepted])
+    fn verdicts(&self) -> [&Counts; 4] {
+        [&self.accepted, &self.clauses, &self.of_model, &self.of_estimate]
+    }
+
+    /// Verdicts that came too often beside others.
+    fn out_of_balance(&self) -> Vec<String> {
+        let all: u64 = self.verdicts().iter().flat_map(|counts| counts.counts()).sum();
+        let often = |count: u64| count * 100 > all * ALIKE_IN_HUNDRED;
+        let seldom = |count: u64| count * 100 < all * ACCEPTED_IN_HUNDRED;
+        let often = self.verdicts().into_iter().flat_map(|counts| counts.such(often));
+        often.chain(self.accepted.such(seldom)).collect()
+    }
+}
+
+/// Calls on lent states.
+pub struct Calls {
+    pub starts: Counts,
+    pub steps: Counts,
+    pub made: Counts,
+    pub spoilt: Counts,
+    pub odd: Counts,
+    /// States with words changed at random.
+    pub changed: Counts,
+}
+
+impl Calls {
+    fn new() -> Calls {
+        Calls {
+            starts: Counts::numbered("start answered", 0..=10),
+            steps: Counts::numbered("step answered", 0..=20),
+            made: Counts::numbered("kind of move made", 1..=9),
+            spoilt: Counts::of_changes("state spoilt", SPOILINGS),
+            odd: Counts::of_changes("state odd and in order", ODDITIES),
+            changed: Counts::named("words changed", ["spoilt", "in order"]),
+        }
+    }
+
+    pub fn started(&mut self, answer: Result<(), Refusal>) {
+        self.starts.add(number(answer));
+    }
+
+    pub fn stepped(&mut self, mv: Move, answer: Result<(), Refusal>) {
+        self.steps.add(number(answer));
+        if answer.is_ok() {
+            self.made.add(mv.kind as usize - 1);
+        }
+    }
+}
+
+/// Runs, and the moves of those that are not refused.
+pub struct Runs {
+    answered: Counts,
+    passed_over: Counts,
+    made: Counts,
+    pub lent: Counts,
+}
+
+impl Runs {
+    fn new() -> Runs {
+        Runs {
+            answered: Counts::numbered("run answered", 0..=11),
+            passed_over: Counts::numbered("move of a run passed over", 12..=20),
+            made: Counts::numbered("kind of move made in a run", 1..=9),
+            lent: Counts::named("run with", LENDINGS),
+        }
+    }
+
+    pub fn ran(&mut self, moves: &[Move], answers: &[u8], answer: Result<(), Refusal>) {
+        self.answered.add(number(answer));
+        for (mv, answer) in moves.iter().zip(answers).filter(|_| answer.is_ok()) {
+            match *answer {
+                0 => self.made.add(mv.kind as usize - 1),
+                refused => self.passed_over.add(usize::from(refused) - 12),
+            }
+        }
+    }
+}
+
+pub struct Tally {
+    pub verdicts: Verdicts,
+    pub calls: Calls,
+    pub runs: Runs,
+}
+
+impl Tally {
+    pub fn new() -> Tally {
+        Tally { verdicts: Verdicts::new(), calls: Calls::new(), runs: Runs::new() }
+    }
+
+    fn counts(&self) -> Vec<&Counts> {
+        let Calls { starts, steps, made, spoilt, odd, changed } = &self.calls;
+        let Runs { answered, passed_over, made: made_in_runs, lent } = &self.runs;
+        let mut counts = self.verdicts.verdicts().to_vec();
+        counts.extend([&self.verdicts.question, starts, steps, made, spoilt, odd, changed]);
+        counts.extend([answered, passed_over, made_in_runs, lent]);
+        counts
     }
 
     pub fn print(&self) {
-        println!("  accepted {}, clauses 1 to 9 {:?}", self.accepted, self.clauses);
-        println!("  refused: model 1 to 9 {:?}, estimate 1 to 5 {:?}", self.of_model, self.of_estimate);
-        println!("  question: yes, no, no such box {:?}", self.question);
+        self.counts().iter().for_each(|counts| counts.print());
     }
 
-    /// How many kinds of answer came too seldom or too often.
-    pub fn faults(&self) -> u64 {
-        let all: u64 = self.verdicts().sum();
-        let seldom = self.verdicts().chain(self.question).filter(|count| *count < FEWEST);
-        let often = self.verdicts().filter(|count| count * 100 > all * ALIKE_IN_HUNDRED);
-        let refusing = self.accepted * 100 < all * ACCEPTED_IN_HUNDRED;
-        (seldom.count() + often.count()) as u64 + u64::from(refusing)
+    /// The kinds that came too seldom or too often.
+    pub fn faults(&self) -> Vec<String> {
+        let seldom = |counts: &&Counts| counts.such(|count| count < FEWEST);
+        let mut faults: Vec<String> = self.counts().iter().flat_map(seldom).collect();
+        faults.extend(self.verdicts.out_of_balance());
+        faults
+    }
+}
+
+#[cfg(test)]
+mod tests {
+    use super::*;
+
+    fn fill(counts: &mut Counts, count: u64) {
+        counts.kinds.iter_mut().for_each(|kind| kind.1 = count);
+    }
+
+    fn fill_runs(runs: &mut Runs, count: u64) {
+        let Runs { answered, passed_over, made, lent } = runs;
+        [answered, passed_over, made, lent].into_iter().for_each(|counts| fill(counts, count));
+    }
+
+    /// A tally in which each kind came often enough, and no verdict too often.
+    fn sound() -> Tally {
+        let mut tally = Tally::new();
+        let Verdicts { accepted, clauses, of_model, of_estimate, question } = &mut tally.verdicts;
+        let Calls { starts, steps, made, spoilt, odd, changed } = &mut tally.calls;
+        let others =
+            [clauses, of_model, of_estimate, question, starts, steps, made, spoilt, odd, changed];
+        others.into_iter().for_each(|counts| fill(counts, FEWEST));
+        fill(accepted, 5 * FEWEST);
+        fill_runs(&mut tally.runs, FEWEST);
+        tally
+    }
+
+    #[test]
+    fn nothing_noted_is_all_faults() {
+        let tally = Tally::new();
+        let kinds: usize = tally.counts().iter().map(|counts| counts.kinds.len()).sum();
+        assert_eq!(tally.faults().len(), kinds);
+    }
+
+    #[test]
+    fn a_kind_too_seldom_is_a_fault() {
+        assert_eq!(sound().faults(), Vec::<String>::new());
+        let mut tally = sound();
+        tally.calls.made.kinds[6].1 = FEWEST - 1;
+        assert_eq!(tally.faults(), ["kind of move made 7 (999)"]);
+        let mut tally = sound();
+        tally.calls.odd.kinds[1].1 = 0;
+        assert_eq!(tally.faults(), ["state odd and in order no_thread (0)"]);
+    }
+
+    #[test]
+    fn verdicts_too_much_alike_are_faults() {
+        let mut tally = sound();
+        tally.verdicts.clauses.kinds[4].1 = 10 * FEWEST;
+        let faults = ["clause broken 5 (10000)", "estimates accepted (5000)"];
+        assert_eq!(tally.faults(), faults);
     }
 }

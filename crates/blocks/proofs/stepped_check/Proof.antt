@@ -1,10 +1,10 @@
--- `blocks::stepped_check` meets its contract: what is read inside is of the block where the image holds it. Assumes nothing.
+-- `blocks::stepped_check` meets its contract: what is read inside is of the block where the image has it. Assumes nothing.
 use Rattle.blocks.proofs.Blocks.{blocks}
 use Rattle.blocks.proofs.stepped_check.Statement.{statement}
 use Rattle.blocks.proofs.stepped_check.Tie as tie
 
-holds-requires : tie.Need-holds-requires
-holds-requires c κs = search blocks
+has-block-requires : tie.Need-has-block-requires
+has-block-requires c κs = search blocks
 
 check-by-steps-requires : tie.Need-check-by-steps-requires
 check-by-steps-requires c κs = search blocks
@@ -16,4 +16,4 @@ returns-2 : tie.Need-returns-2
 returns-2 c = search blocks
 
 pub stepped-check-spec : {M : Type 1} → statement M
-stepped-check-spec = tie.close (tie.spec holds-requires check-by-steps-requires returns returns-2)
+stepped-check-spec = tie.close (tie.spec has-block-requires check-by-steps-requires returns returns-2)

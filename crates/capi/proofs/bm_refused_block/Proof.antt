@@ -1,25 +1,16 @@
--- `capi::bm_refused_block` meets its contract, case by case. Assumes nothing.
-use Rattle.capi.proofs.Laws.{packs, fits-both, long-both}
+-- `capi::bm_refused_block` meets its contract. Assumes nothing.
+use Rattle.capi.proofs.Laws.{packs}
 use Rattle.capi.proofs.bm_refused_block.Statement.{statement}
 use Rattle.capi.proofs.bm_refused_block.Tie as tie
 
-refused-block-requires : tie.Need-refused-block-requires
-refused-block-requires c κs = search packs
+read-estimate-requires : tie.Need-read-estimate-requires
+read-estimate-requires c κs = search packs
+
+of-part-requires : tie.Need-of-part-requires
+of-part-requires c κs = search packs
 
 returns : tie.Need-returns
-returns c = long-both _ _ _ (c .before .refused-block .ensures) (c .if1 .taken)
-
-copy-requires : tie.Need-copy-requires
-copy-requires c κs = search packs
-
-same-length : tie.Need-same-length
-same-length c = search packs
-
-returns-2 : tie.Need-returns-2
-returns-2 c =
-    let k = c .before .before in
-    fits-both _ _ _ _ _ (k .before .before .before .refused-block .ensures) (k .before .before .if1 .left) (k .copy .ensures .0) (k .copy .ensures .1)
+returns c = search packs
 
 pub bm-refused-block-spec : {M : Type 1} → statement M
-bm-refused-block-spec =
-    tie.close (tie.spec refused-block-requires returns copy-requires same-length returns-2)
+bm-refused-block-spec = tie.close (tie.spec read-estimate-requires of-part-requires returns)

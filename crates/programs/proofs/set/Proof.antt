@@ -18,8 +18,8 @@ write-requires c κs = search walks
 loop-holds : tie.Need-loop-holds Inv-loop μ-loop
 loop-holds c = search walks
 
-first-requires : tie.Need-first-requires Inv-loop μ-loop
-first-requires c κs = search walks
+lowest-requires : tie.Need-lowest-requires Inv-loop μ-loop
+lowest-requires c κs = search walks
 
 cast-print-decimal : tie.Need-cast-print-decimal Inv-loop μ-loop
 cast-print-decimal c = search walks
@@ -27,8 +27,8 @@ cast-print-decimal c = search walks
 print-decimal-requires : tie.Need-print-decimal-requires Inv-loop μ-loop
 print-decimal-requires c κs = search walks
 
-rest-requires : tie.Need-rest-requires Inv-loop μ-loop
-rest-requires c κs = search walks
+without-lowest-requires : tie.Need-without-lowest-requires Inv-loop μ-loop
+without-lowest-requires c κs = search walks
 
 slice-aggregate-write-2 : tie.Need-slice-aggregate-write-2 Inv-loop μ-loop
 slice-aggregate-write-2 c = search walks
@@ -66,10 +66,10 @@ set-spec =
     slice-aggregate-write
     write-requires
     loop-holds
-    first-requires
+    lowest-requires
     cast-print-decimal
     print-decimal-requires
-    rest-requires
+    without-lowest-requires
     slice-aggregate-write-2
     write-requires-2
     loop-less

@@ -1,8 +1,10 @@
 //! Cases made for tests and comparisons: the same seed gives the same cases.
 
+pub mod change;
 pub mod crafted;
 pub mod damage;
 pub mod k;
+pub mod odd;
 pub mod random;
 pub mod rng;
 pub mod spoil;
@@ -11,11 +13,13 @@ pub mod walk;
 use crate::estimate::Estimate;
 use crate::model::Model;
 use crate::step::Move;
+use change::Change;
 use crafted::{EVERY_CLAUSE, REFUSED_MOVES};
 use damage::{DAMAGES, Damage, Pair};
+use odd::ODDITIES;
 use random::Size;
 use rng::Rng;
-use spoil::{SPOILINGS, Spoiling};
+use spoil::SPOILINGS;
 use walk::Taste;
 
 /// A case: images, moves, and the words to begin with if not a start.
@@ -55,7 +59,9 @@ enum Sort {
     LongRun,
     /// From a state whose stamps are nearly or all used.
     Stamps,
-    Spoilt(&'static Spoiling),
+    Spoilt(&'static Change),
+    /// From a state that no run comes to, and that is in order.
+    Odd(&'static Change),
     /// Words that are not 9,112.
     Room,
 }
@@ -78,6 +84,7 @@ impl Sort {
             Sort::LongRun => "long-run".to_string(),
             Sort::Stamps => "stamps".to_string(),
             Sort::Spoilt(spoiling) => format!("refusal-11-{}", spoiling.name),
+            Sort::Odd(oddity) => format!("odd-{}", oddity.name),
             Sort::Room => "refusal-10-room".to_string(),
         }
     }
@@ -91,6 +98,7 @@ fn all_sorts() -> Vec<Sort> {
     sorts.extend(DAMAGES.iter().map(Damaged));
     sorts.extend((0..REFUSED_MOVES.len()).map(RefusedMove));
     sorts.extend(SPOILINGS.iter().map(Spoilt));
+    sorts.extend(ODDITIES.iter().map(Odd));
     sorts
 }
 
@@ -107,6 +115,24 @@ pub fn case(seed: u64, number: u64) -> Case {
     let mut case = Maker { rng: &mut rng }.make(sort);
     case.sort = sort.name();
     case
+}
+
+/// Mostly a small size, seldom the largest.
+pub fn any_size(rng: &mut Rng) -> Size {
+    match rng.below(20) {
+        0..10 => Size::small(rng),
+        10..15 => Size::typical(rng),
+        15..19 => Size::lively(rng),
+        _ => Size::LARGEST,
+    }
+}
+
+/// A state that a walk from the start left.
+pub fn walked_words(rng: &mut Rng, model: &Model) -> Vec<u32> {
+    let mut words = walk::start(model);
+    let (count, taste) = (rng.between(0, 60), Taste { allowed: 95, growth: 30, crowd: true });
+    walk::walk(rng, model, &mut words, count, taste);
+    words
 }
 
 struct Maker<'a> {
@@ -145,16 +171,8 @@ impl Maker<'_> {
             Sort::LongRun => self.walked(|_| Size::LARGEST, 400, Taste::PLAIN),
             Sort::Stamps => self.stamps(),
             Sort::Spoilt(spoiling) => self.spoilt(spoiling),
+            Sort::Odd(oddity) => self.odd(oddity),
             Sort::Room => self.room(),
-        }
-    }
-
-    fn any_size(rng: &mut Rng) -> Size {
-        match rng.below(20) {
-            0..10 => Size::small(rng),
-            10..15 => Size::typical(rng),
-            15..19 => Size::lively(rng),
-            _ => Size::LARGEST,
         }
     }
 
@@ -184,7 +202,7 @@ impl Maker<'_> {
 
     fn shut_off(&mut self) -> Case {
         for _ in 0..TRIES {
-            let size = Size { apart: Some(0), boxes: 3, ..Self::any_size(self.rng) };
+            let size = Size { apart: Some(0), boxes: 3, ..any_size(self.rng) };
             let model = random::model(self.rng, size);
             let estimate = crate::least::least(&model);
             if crate::clauses::shut_off(&model, &estimate, 0) {
@@ -214,7 +232,7 @@ impl Maker<'_> {
     /// A damaged case: its model or its estimate is refused.
     fn damaged(&mut self, damage: &Damage) -> Case {
         loop {
-            let size = Self::any_size(self.rng);
+            let size = any_size(self.rng);
             let model = random::model(self.rng, size);
             let estimate = random::accepted(self.rng, &model);
             let mut case = self.plain(&model, &estimate, 3, Taste::PLAIN);
@@ -230,7 +248,7 @@ impl Maker<'_> {
     fn refused_move(&mut self, at: usize) -> Case {
         let number = REFUSED_MOVES[at].number;
         for _ in 0..TRIES {
-            let size = Self::any_size(self.rng);
+            let size = any_size(self.rng);
             let model = random::model(self.rng, size);
             let mut words = walk::start(&model);
             let mut moves = walk::walk(self.rng, &model, &mut words, 24, Taste::PLAIN);
@@ -259,14 +277,10 @@ impl Maker<'_> {
         Case { moves: refused.moves(), words: Some(words), ..plain }
     }
 
-    /// A state that a walk left, and the model.
     fn walked_words(&mut self) -> (Model, Vec<u32>) {
-        let size = Self::any_size(self.rng);
+        let size = any_size(self.rng);
         let model = random::model(self.rng, size);
-        let mut words = walk::start(&model);
-        let (count, taste) =
-            (self.rng.between(0, 60), Taste { allowed: 95, growth: 30, crowd: true });
-        walk::walk(self.rng, &model, &mut words, count, taste);
+        let words = walked_words(self.rng, &model);
         (model, words)
     }
 
@@ -296,12 +310,23 @@ impl Maker<'_> {
         self.crafted_move(spent.expect("a case of the last stamp"))
     }
 
-    fn spoilt(&mut self, spoiling: &Spoiling) -> Case {
+    fn spoilt(&mut self, spoiling: &Change) -> Case {
         loop {
             let (model, mut words) = self.walked_words();
             if spoiling.make(self.rng, &model, &mut words) {
                 let moves = vec![walk::any_move(self.rng, &model)];
                 return self.with_words(&model, words, moves);
+            }
+        }
+    }
+
+    fn odd(&mut self, oddity: &Change) -> Case {
+        loop {
+            let (model, mut words) = self.walked_words();
+            if oddity.make(self.rng, &model, &mut words) {
+                let begun = words.clone();
+                let moves = walk::walk(self.rng, &model, &mut words, 20, Taste::PLAIN);
+                return self.with_words(&model, begun, moves);
             }
         }
     }

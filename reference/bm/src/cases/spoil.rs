@@ -1,133 +1,16 @@
 //! States that break one of the state rules each.
 
-use super::rng::Rng;
-use crate::model::Model;
+use super::change::{Change, Hand, SITES_AT, THREADS_AT, changes};
 use crate::names::{Held, NameKind, NameNo};
-use crate::state::{RECORD_WORDS, Record, SITE_WORDS, THREAD_WORDS, records};
+use crate::state::{RECORD_WORDS, SITE_WORDS, THREAD_WORDS};
 
-const SITES_AT: usize = 3;
-const THREADS_AT: usize = SITES_AT + 16 * SITE_WORDS;
-
-/// A way to spoil a state. It gives `false`, and changes nothing, where the
-/// state has no place for it.
-pub struct Spoiling {
-    pub name: &'static str,
-    make: fn(&mut Hand<'_>) -> Option<()>,
-}
-
-impl Spoiling {
-    pub fn make(&self, rng: &mut Rng, model: &Model, words: &mut [u32]) -> bool {
-        (self.make)(&mut Hand { rng, model, words }).is_some()
-    }
-}
-
-macro_rules! spoilings {
-    ($($name:ident),* $(,)?) => {
-        /// All ways.
-        pub const SPOILINGS: &[Spoiling] =
-            &[$(Spoiling { name: stringify!($name), make: |hand| hand.$name() }),*];
-    };
-}
-
-spoilings! {
+changes! {
+    SPOILINGS:
     lacking_box, unused_site, unused_thread, thread_count, site_count, second_word, stamp,
     line_past_end, type_empty, type_falling, type_repeated, type_gap, subject_twice,
     subject_of_wrong_kind, binding_lost, binding_extra, binding_past_names, held_past_list,
     held_received, free_with_stamp, made_without_stamp, stamp_not_yet, stamp_of_other_box,
     never_bound,
-}
-
-struct Hand<'a> {
-    rng: &'a mut Rng,
-    model: &'a Model,
-    words: &'a mut [u32],
-}
-
-impl Hand<'_> {
-    fn any_box(&mut self) -> Option<usize> {
-        let boxes = self.model.boxes().len();
-        if boxes == 0 { None } else { Some(self.rng.below(boxes)) }
-    }
-
-    fn record(&self, box_no: usize) -> Record<'_> {
-        Record(&records(self.words).expect("a state")[box_no])
-    }
-
-    /// Writes a word of a box's record.
-    fn put(&mut self, box_no: usize, at: usize, word: u32) -> Option<()> {
-        self.words[box_no * RECORD_WORDS + at] = word;
-        Some(())
-    }
-
-    /// The first word of some site.
-    fn any_site(&mut self) -> Option<(usize, usize)> {
-        let box_no = self.any_box()?;
-        let sites = self.record(box_no).site_count();
-        if sites == 0 {
-            return None;
-        }
-        Some((box_no, SITES_AT + SITE_WORDS * self.rng.below(sites)))
-    }
-
-    /// The first word of some thread.
-    fn any_thread(&mut self) -> Option<(usize, usize)> {
-        let box_no = self.any_box()?;
-        let threads = self.record(box_no).thread_count();
-        if threads == 0 {
-            return None;
-        }
-        Some((box_no, THREADS_AT + THREAD_WORDS * self.rng.below(threads)))
-    }
-
-    /// Some binding: box and word.
-    fn any_binding(&mut self) -> Option<(usize, usize)> {
-        let mut places = Vec::new();
-        for box_no in 0..self.model.boxes().len() {
-            for (at, thread) in self.record(box_no).threads().enumerate() {
-                let start = THREADS_AT + THREAD_WORDS * at;
-                let bound = self.model.listed().into_iter();
-                let bound = bound.filter(|name| thread.binding(*name) != 0);
-                places.extend(bound.map(|name| (box_no, start + 1 + name.index())));
-            }
-        }
-        self.rng.pick(&places)
-    }
-
-    /// Puts a held name where one stands: a subject, a type or a binding.
-    fn put_held(&mut self, held: Held) -> Option<()> {
-        let (box_no, at) = match self.rng.below(3) {
-            0 => self.any_site()?,
-            1 => {
-                let (box_no, site) = self.any_site()?;
-                self.clear_type(box_no, site);
-                (box_no, site + 2)
-            }
-            _ => self.any_binding().or_else(|| self.any_site())?,
-        };
-        self.put(box_no, at, held.0)
-    }
-
-    /// Leaves a type empty, to be filled.
-    fn clear_type(&mut self, box_no: usize, site: usize) {
-        let start = box_no * RECORD_WORDS + site;
-        self.words[start + 2..start + SITE_WORDS].fill(0);
-    }
-
-    fn name_of_kind(&mut self, kind: NameKind) -> Option<NameNo> {
-        let names = self.model.listed().into_iter();
-        let names: Vec<NameNo> = names.filter(|name| self.model.kind(*name) == kind).collect();
-        self.rng.pick(&names)
-    }
-
-    /// A restricted or exposed name and the box that binds it.
-    fn made_name(&mut self) -> Option<(NameNo, usize)> {
-        let names = self.model.listed().into_iter().filter(|name| {
-            matches!(self.model.kind(*name), NameKind::Restricted | NameKind::Exposed)
-        });
-        let names = names.filter_map(|name| Some((name, self.model.binder(name)?)));
-        let names: Vec<(NameNo, usize)> = names.collect();
-        self.rng.pick(&names)
-    }
 }
 
 impl Hand<'_> {
@@ -197,11 +80,7 @@ impl Hand<'_> {
 
     fn put_type(&mut self, words: &[u32]) -> Option<()> {
         let (box_no, site) = self.any_site()?;
-        self.clear_type(box_no, site);
-        for (at, word) in words.iter().enumerate() {
-            self.put(box_no, site + 2 + at, *word)?;
-        }
-        Some(())
+        self.write_type(box_no, site, words)
     }
 
     fn type_falling(&mut self) -> Option<()> {

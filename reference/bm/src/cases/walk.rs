@@ -73,11 +73,17 @@ pub fn allowed(model: &Model, words: &[u32]) -> Vec<Move> {
     moves
 }
 
-/// A move with numbers at random, most often refused.
+/// Numbers that a narrower number would take for small ones.
+const LARGE: [u32; 5] = [255, 256, 1 << 16, 1 << 31, u32::MAX];
+
+/// A move with numbers at random, most often refused; seldom one is large.
 pub fn any_move(rng: &mut Rng, model: &Model) -> Move {
     let boxes = model.boxes().len() + 1;
-    let mut number = |limit: usize| rng.below(limit) as u32;
-    Move::new([number(11), number(boxes), number(5), number(boxes), number(5)])
+    let mut numbers = [11, boxes, 5, boxes, 5].map(|limit| rng.below(limit) as u32);
+    if rng.percent(10) {
+        numbers[rng.below(5)] |= LARGE[rng.below(LARGE.len())];
+    }
+    Move::new(numbers)
 }
 
 /// How moves are chosen.

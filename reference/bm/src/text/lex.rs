@@ -22,19 +22,32 @@ pub const KEYWORDS: [&str; 16] = [
     "kap",
 ];
 
-/// A text that cannot be assembled: where, and what was expected there.
+/// A text that cannot be used: where, and what was expected there.
 #[derive(Clone, PartialEq, Eq, Debug)]
 pub struct TextError {
     pub place: TextPlace,
     pub expected: String,
     pub found: String,
+    /// What to write instead.
+    pub hint: Option<String>,
+}
+
+/// What is read from a text, or its error.
+pub type Parsed<T> = Result<T, TextError>;
+
+impl TextError {
+    /// The same error with a hint.
+    pub fn hint(self, hint: impl Into<String>) -> TextError {
+        TextError { hint: Some(hint.into()), ..self }
+    }
 }
 
 impl fmt::Display for TextError {
     fn fmt(&self, f: &mut fmt::Formatter<'_>) -> fmt::Result {
         let TextPlace { line, column } = self.place;
         let (expected, found) = (&self.expected, &self.found);
-        write!(f, "line {line}, column {column}: expected {expected}, found {found}")
+        write!(f, "line {line}, column {column}: expected {expected}, found {found}")?;
+        self.hint.as_ref().map_or(Ok(()), |hint| write!(f, "; {hint}"))
     }
 }
 
@@ -63,22 +76,32 @@ pub struct Token<'a> {
 }
 
 impl Token<'_> {
+    /// The place after the token.
+    pub fn after(&self) -> TextPlace {
+        let len = match self.kind {
+            Kind::Keyword(text) | Kind::Name(text) | Kind::Number(text) => text.len(),
+            Kind::Sign(_) => 1,
+            Kind::End => 0,
+        };
+        TextPlace { column: self.place.column + len, ..self.place }
+    }
+
     /// The error that something else was expected here.
     pub fn instead_of(&self, expected: impl Into<String>) -> TextError {
         let found = match self.kind {
             Kind::Keyword(word) => format!("the word '{word}'"),
             Kind::Name(name) => format!("the name '{name}'"),
             Kind::Number(digits) => format!("the number {digits}"),
-            Kind::Sign(sign) => format!("'{sign}'"),
+            Kind::Sign(sign) => format!("'{}'", sign.escape_debug()),
             Kind::End => "the end of the text".to_string(),
         };
-        TextError { place: self.place, expected: expected.into(), found }
+        TextError { place: self.place, expected: expected.into(), found, hint: None }
     }
 }
 
 /// The tokens of a text, the last of kind `End`. Blanks and comments, from
 /// `#` to the end of the line, part tokens.
-pub fn tokens(text: &str) -> Result<Vec<Token<'_>>, TextError> {
+pub fn tokens(text: &str) -> Parsed<Vec<Token<'_>>> {
     let mut tokens = Vec::new();
     let mut end = TextPlace { line: 1, column: 1 };
     for (number, line) in text.lines().enumerate() {
@@ -89,11 +112,25 @@ pub fn tokens(text: &str) -> Result<Vec<Token<'_>>, TextError> {
     Ok(tokens)
 }
 
-fn line_tokens<'a>(
-    number: usize,
-    line: &'a str,
-    tokens: &mut Vec<Token<'a>>,
-) -> Result<(), TextError> {
+/// Bytes as text. Where they are not UTF-8, the error has the place of the
+/// first byte that is not.
+pub fn utf8(bytes: &[u8]) -> Parsed<&str> {
+    std::str::from_utf8(bytes).map_err(|error| {
+        let (good, bad) = bytes.split_at(error.valid_up_to());
+        let good = String::from_utf8_lossy(good);
+        let line = good.split('\n').count();
+        let column = good.chars().rev().take_while(|c| *c != '\n').count() + 1;
+        TextError {
+            place: TextPlace { line, column },
+            expected: "UTF-8 text".to_string(),
+            found: format!("the byte {:#04x}", bad[0]),
+            hint: None,
+        }
+    })
+}
+
+/// Appends the tokens of one text line.
+pub fn line_tokens<'a>(number: usize, line: &'a str, tokens: &mut Vec<Token<'a>>) -> Parsed<()> {
     let mut rest = line;
     let mut column = 1;
     while let Some(first) = rest.chars().next() {
@@ -110,14 +147,23 @@ fn line_tokens<'a>(
             && !first.is_whitespace()
             && !"(){}<>.,|!@".contains(sign)
         {
-            return Err(
-                token.instead_of("a name, a word, a number or one of ( ) { } < > . , | ! @")
-            );
+            return Err(unknown_sign(token, sign));
         }
         rest = after;
         column += text.chars().count();
     }
     Ok(())
+}
+
+/// The error at a sign that the text form does not have, with a hint where
+/// the papers use it.
+fn unknown_sign(token: Token<'_>, sign: char) -> TextError {
+    let error = token.instead_of("a name, a word, a number or one of ( ) { } < > . , | ! @");
+    match sign {
+        'ν' => error.hint("a restriction is written 'new n.P'"),
+        '⟨' | '〈' => error.hint("an output is written 'x<z>.P'"),
+        _ => error,
+    }
 }
 
 fn in_word(c: char) -> bool {

@@ -1,23 +1,25 @@
 //! From text to a draft of a model and an estimate.
 
-use super::lex::{Kind, TextError, TextPlace, Token, tokens};
+use super::lex::{Kind, Parsed, TextError, TextPlace, Token, tokens};
 use super::print::NameList;
+use super::tree::{Label, NodeNo, Tree};
 use crate::estimate::Estimate;
-use crate::model::{Line, LineNo, MAX_BOXES, MAX_LINES, MAX_SITES, Site};
+use crate::model::{Line, MAX_BOXES, MAX_LINES, MAX_SITES, Site};
 use crate::names::{MAX_NAMES, NameKind, NameNo, NameSet};
 use crate::shape::MAX_TYPE;
 use crate::write::{Draft, DraftBox};
 
 /// How deep brackets and prefixes may nest.
 const MAX_DEPTH: usize = 400;
-
-type Parsed<T> = Result<T, TextError>;
+/// The hint at a kind of name that stands too late.
+const NAMES_FIRST: &str = "names come before boxes and estimate";
 
 /// What a text says.
 #[derive(Clone, Debug)]
 pub struct Assembled {
     pub model: Draft,
-    pub estimate: Option<Estimate>,
+    /// The estimate, or the error that the text has none.
+    pub estimate: Parsed<Estimate>,
     pub names: NameList,
 }
 
@@ -26,6 +28,7 @@ pub fn assemble(text: &str) -> Parsed<Assembled> {
     let tokens = tokens(text)?;
     let mut parser = Parser {
         tokens: &tokens,
+        after: None,
         names: Vec::new(),
         kinds: Vec::new(),
         subjects: NameSet::EMPTY,
@@ -37,6 +40,8 @@ pub fn assemble(text: &str) -> Parsed<Assembled> {
 
 struct Parser<'t> {
     tokens: &'t [Token<'t>],
+    /// The place after the last token taken.
+    after: Option<TextPlace>,
     names: Vec<&'t str>,
     kinds: Vec<NameKind>,
     /// The subjects of the sites so far.
@@ -55,8 +60,24 @@ impl<'t> Parser<'t> {
         let token = self.tokens[0];
         if token.kind != Kind::End {
             self.tokens = &self.tokens[1..];
+            self.after = Some(token.after());
         }
         token
+    }
+
+    /// The error that something is missing before the next token. Its place
+    /// is after the last token, unless the next is on the same text line.
+    fn missing(&self, expected: impl Into<String>) -> TextError {
+        let next = self.peek();
+        let error = next.instead_of(expected);
+        let Some(place) = self.after else {
+            return error;
+        };
+        match next.kind {
+            Kind::End => TextError { place, ..error },
+            _ if next.place.line == place.line => error,
+            _ => TextError { place, found: "the end of the line".to_string(), ..error },
+        }
     }
 
     /// Takes the next token if it is of this kind.
@@ -69,10 +90,19 @@ impl<'t> Parser<'t> {
     }
 
     fn sign(&mut self, sign: char) -> Parsed<()> {
-        match self.take() {
-            token if token.kind == Kind::Sign(sign) => Ok(()),
-            token => Err(token.instead_of(format!("'{sign}'"))),
+        if self.takes(Kind::Sign(sign)) {
+            return Ok(());
         }
+        Err(self.missing(format!("'{sign}'")))
+    }
+
+    /// Refuses a bracket where the papers have one and this form does not.
+    fn no_bracket(&self, form: &str) -> Parsed<()> {
+        let token = self.peek();
+        if token.kind != Kind::Sign('(') {
+            return Ok(());
+        }
+        Err(token.instead_of("a name").hint(format!("write '{form}'")))
     }
 
     fn number(&mut self, below: usize, what: &str) -> Parsed<usize> {
@@ -96,28 +126,37 @@ impl<'t> Parser<'t> {
             }
             boxes.push(self.box_def()?);
         }
-        let has_estimate = self.takes(Kind::Keyword("estimate"));
-        let estimate = if has_estimate { Some(self.estimate(boxes.len())?) } else { None };
-        match self.peek() {
-            token if token.kind == Kind::End => {}
-            token if has_estimate => {
-                return Err(token.instead_of("'rho', 'box', 'shown', 'hidden', 'eps' or 'kap'"));
-            }
-            token => return Err(token.instead_of("a kind of name, 'box' or 'estimate'")),
+        let estimate = if self.takes(Kind::Keyword("estimate")) {
+            Ok(self.estimate(boxes.len())?)
+        } else {
+            Err(self.missing("'estimate'"))
+        };
+        if self.peek().kind != Kind::End {
+            return Err(self.after_boxes(boxes.len()));
         }
         let names = NameList::new(self.names.iter().map(|name| name.to_string()).collect());
         let kinds = std::mem::take(&mut self.kinds);
         Ok(Assembled { model: Draft { kinds, boxes }, estimate, names })
     }
 
+    /// The error at what follows the names and boxes, which is no estimate.
+    fn after_boxes(&self, boxes: usize) -> TextError {
+        let token = self.peek();
+        if boxes == 0 {
+            return token.instead_of("a kind of name, 'box' or 'estimate'");
+        }
+        let error = token.instead_of("'|', 'box' or 'estimate'");
+        match token.kind {
+            Kind::Keyword("site" | "hidden") => {
+                error.hint("the sites of a box come before its process")
+            }
+            kind if kind_of_name(kind).is_some() => error.hint(NAMES_FIRST),
+            _ => error,
+        }
+    }
+
     fn declared_kind(&mut self) -> Option<NameKind> {
-        let kind = match self.peek().kind {
-            Kind::Keyword("free") => NameKind::Free,
-            Kind::Keyword("restricted") => NameKind::Restricted,
-            Kind::Keyword("received") => NameKind::Received,
-            Kind::Keyword("exposed") => NameKind::Exposed,
-            _ => return None,
-        };
+        let kind = kind_of_name(self.peek().kind)?;
         self.take();
         Some(kind)
     }
@@ -137,7 +176,7 @@ impl<'t> Parser<'t> {
             self.kinds.push(kind);
             declared += 1;
         }
-        if declared == 0 { Err(self.peek().instead_of("a name")) } else { Ok(()) }
+        if declared == 0 { Err(self.missing("a name")) } else { Ok(()) }
     }
 
     /// A declared name.
@@ -180,8 +219,9 @@ impl<'t> Parser<'t> {
         Ok(name)
     }
 
-    /// Names in braces, parted by commas, each read by `one`.
-    fn set(&mut self, one: impl Fn(&mut Self) -> Parsed<NameNo>) -> Parsed<NameSet> {
+    /// Names in braces, parted by commas, each read by `one`, which is given
+    /// those before.
+    fn set(&mut self, one: impl Fn(&mut Self, NameSet) -> Parsed<NameNo>) -> Parsed<NameSet> {
         self.sign('{')?;
         let mut set = NameSet::EMPTY;
         if self.takes(Kind::Sign('}')) {
@@ -189,15 +229,16 @@ impl<'t> Parser<'t> {
         }
         loop {
             let token = self.peek();
-            let name = one(self)?;
+            let name = one(self, set)?;
             if set.has(name) {
                 return Err(token.instead_of("a name not yet in the set"));
             }
             set = set.with(name);
-            match self.take() {
-                token if token.kind == Kind::Sign(',') => {}
-                token if token.kind == Kind::Sign('}') => return Ok(set),
-                token => return Err(token.instead_of("',' or '}'")),
+            if self.takes(Kind::Sign('}')) {
+                return Ok(set);
+            }
+            if !self.takes(Kind::Sign(',')) {
+                return Err(self.missing("',' or '}'"));
             }
         }
     }
@@ -208,15 +249,23 @@ impl<'t> Parser<'t> {
         subject: NameNo,
         one: impl Fn(&mut Self) -> Parsed<NameNo>,
     ) -> Parsed<NameSet> {
-        let token = self.peek();
-        let set = self.set(one)?;
-        if !(1..=MAX_TYPE).contains(&set.len()) {
-            return Err(token.instead_of("a type of 1 to 8 names"));
+        let subject = self.names[subject.index()];
+        if let [open, close, ..] = self.tokens
+            && (open.kind, close.kind) == (Kind::Sign('{'), Kind::Sign('}'))
+        {
+            return Err(close.instead_of(format!("1 to 8 names in the type of '{subject}'")));
         }
-        if set.has(subject) {
-            return Err(token.instead_of("a type without its subject"));
-        }
-        Ok(set)
+        self.set(|parser, before| {
+            let token = parser.peek();
+            if token.kind == Kind::Name(subject) {
+                let expected = format!("names other than '{subject}' in the type of '{subject}'");
+                return Err(token.instead_of(expected));
+            }
+            if before.len() == MAX_TYPE {
+                return Err(token.instead_of(format!("at most 8 names in the type of '{subject}'")));
+            }
+            one(parser)
+        })
     }
 
     fn box_def(&mut self) -> Parsed<DraftBox> {
@@ -237,6 +286,7 @@ impl<'t> Parser<'t> {
     }
 
     fn site(&mut self, hidden: bool) -> Parsed<Site> {
+        self.no_bracket(if hidden { "hidden x {c, d}" } else { "site x {c, d}" })?;
         let (subject, token) = self.name_of_kind(NameKind::Free, "a free name")?;
         if self.subjects.has(subject) {
             return Err(token.instead_of("a name that no other site has"));
@@ -316,69 +366,93 @@ impl<'t> Parser<'t> {
                 self.take();
                 Line::Replicate { next: self.part(tree, scope)? }
             }
-            Kind::Keyword(word) => {
+            Kind::Keyword(word @ ("new" | "expose" | "hide" | "unhide")) => {
                 self.take();
-                self.worded(tree, scope, word, token)?
+                self.worded(tree, scope, word)?
             }
             Kind::Name(_) => self.communication(tree, scope)?,
-            _ => return Err(token.instead_of("a process")),
+            _ => return Err(self.no_process()),
         };
         tree.set(node, line);
         Ok(node)
     }
 
-    /// What follows a full stop.
+    /// The error that no process stands here.
+    fn no_process(&self) -> TextError {
+        let token = self.peek();
+        match token.kind {
+            kind if kind_of_name(kind).is_some() => token.instead_of("a process").hint(NAMES_FIRST),
+            Kind::End | Kind::Keyword(_) | Kind::Sign('|' | ')') => self.missing("a process"),
+            _ => token.instead_of("a process"),
+        }
+    }
+
+    /// The full stop after a prefix, and what follows.
     fn rest(&mut self, tree: &mut Tree<'t>, scope: NameSet) -> Parsed<NodeNo> {
-        self.sign('.')?;
+        if !self.takes(Kind::Sign('.')) {
+            let error = self.missing("'.' and a process");
+            return Err(error.hint("write '.0' where nothing follows"));
+        }
         self.part(tree, scope)
     }
 
-    /// A prefix that begins with a word.
-    fn worded(
-        &mut self,
-        tree: &mut Tree<'t>,
-        scope: NameSet,
-        word: &str,
-        token: Token<'t>,
-    ) -> Parsed<Line> {
+    /// A prefix that begins with a word: `new`, `expose`, `hide`, else `unhide`.
+    fn worded(&mut self, tree: &mut Tree<'t>, scope: NameSet, word: &str) -> Parsed<Line> {
         match word {
             "new" => {
+                self.no_bracket("new n.P")?;
                 let name = self.binder(NameKind::Restricted, "a restricted name")?;
                 Ok(Line::Restrict { name, next: self.rest(tree, scope.with(name))? })
             }
             "expose" => {
+                self.no_bracket("expose x {c, d}.P")?;
                 let name = self.binder(NameKind::Exposed, "an exposed name")?;
                 let ty = self.ty(name, |parser| parser.used(scope))?;
                 Ok(Line::Expose { name, ty, next: self.rest(tree, scope.with(name))? })
             }
             "hide" => {
+                self.no_bracket("hide x.P")?;
                 let on = self.used(scope)?;
                 Ok(Line::Hide { on, next: self.rest(tree, scope)? })
             }
-            "unhide" => {
+            _ => {
+                self.no_bracket("unhide x.P")?;
                 let on = self.used(scope)?;
                 Ok(Line::Unhide { on, next: self.rest(tree, scope)? })
             }
-            _ => Err(token.instead_of("a process")),
         }
     }
 
     /// An input or an output.
     fn communication(&mut self, tree: &mut Tree<'t>, scope: NameSet) -> Parsed<Line> {
+        self.no_nil()?;
         let on = self.used(scope)?;
-        let token = self.take();
-        match token.kind {
+        match self.peek().kind {
             Kind::Sign('(') => {
+                self.take();
                 let into = self.binder(NameKind::Received, "a received name")?;
                 self.sign(')')?;
                 Ok(Line::Input { on, into, next: self.rest(tree, scope.with(into))? })
             }
             Kind::Sign('<') => {
+                self.take();
                 let of = self.used(scope)?;
                 self.sign('>')?;
                 Ok(Line::Output { on, of, next: self.rest(tree, scope)? })
             }
-            _ => Err(token.instead_of("'(' or '<'")),
+            _ => Err(self.missing("'(' or '<'")),
+        }
+    }
+
+    /// Refuses `nil`, unless it is the name of a channel.
+    fn no_nil(&self) -> Parsed<()> {
+        let [token, next, ..] = self.tokens else {
+            return Ok(());
+        };
+        match (token.kind, next.kind) {
+            (Kind::Name("nil"), Kind::Sign('(' | '<')) => Ok(()),
+            (Kind::Name("nil"), _) => Err(token.instead_of("a process").hint("nil is written '0'")),
+            _ => Ok(()),
         }
     }
 
@@ -390,7 +464,7 @@ impl<'t> Parser<'t> {
             self.named_set(&mut estimate.rho, &mut given)?;
         }
         let mut next_box = 0;
-        while self.takes(Kind::Keyword("box")) {
+        while boxes > 0 && self.takes(Kind::Keyword("box")) {
             let token = self.peek();
             let box_no = self.number(boxes, "a box number")?;
             if box_no < next_box {
@@ -399,7 +473,32 @@ impl<'t> Parser<'t> {
             next_box = box_no + 1;
             self.box_sets(&mut estimate.boxes[box_no])?;
         }
-        Ok(estimate)
+        match self.peek().kind {
+            Kind::End => Ok(estimate),
+            _ => Err(self.after_sets(boxes, next_box > 0)),
+        }
+    }
+
+    /// The error at what follows an estimate's sets, those of a box if `in_box`.
+    fn after_sets(&self, boxes: usize, in_box: bool) -> TextError {
+        let token = self.peek();
+        let expected = match (boxes, in_box) {
+            (0, _) => "'rho'",
+            (_, false) => "'rho' or 'box'",
+            (_, true) => "'shown', 'hidden', 'eps', 'kap' or 'box'",
+        };
+        let error = token.instead_of(expected);
+        match token.kind {
+            Kind::Keyword("box" | "shown" | "hidden" | "eps" | "kap") if boxes == 0 => {
+                error.hint("the model has no box")
+            }
+            Kind::Keyword("rho") => error.hint("the sets of rho come before the boxes"),
+            Kind::Keyword("shown" | "hidden" | "eps" | "kap") => {
+                error.hint("a box's sets come after 'box' and its number")
+            }
+            kind if kind_of_name(kind).is_some() => error.hint(NAMES_FIRST),
+            _ => error,
+        }
     }
 
     fn box_sets(&mut self, sets: &mut crate::estimate::BoxSets) -> Parsed<()> {
@@ -424,7 +523,7 @@ impl<'t> Parser<'t> {
     }
 
     fn any_set(&mut self) -> Parsed<NameSet> {
-        self.set(|parser| parser.name().map(|(name, _)| name))
+        self.set(|parser, _| parser.name().map(|(name, _)| name))
     }
 
     /// A name and its set.
@@ -439,113 +538,13 @@ impl<'t> Parser<'t> {
     }
 }
 
-/// A node of a box's tree, in the order of reading.
-type NodeNo = LineNo;
-/// A line number with the place of its sign.
-type Label<'t> = (usize, Token<'t>);
-
-struct Node<'t> {
-    /// The line, its children being nodes.
-    line: Line,
-    label: Option<Label<'t>>,
-    token: Token<'t>,
-}
-
-#[derive(Default)]
-struct Tree<'t> {
-    nodes: Vec<Node<'t>>,
-}
-
-impl<'t> Tree<'t> {
-    fn add(&mut self, token: Token<'t>, label: Option<Label<'t>>) -> Parsed<NodeNo> {
-        if self.nodes.len() == MAX_LINES {
-            return Err(token.instead_of("at most 124 lines in a box"));
-        }
-        self.nodes.push(Node { line: Line::Nil, label, token });
-        Ok(LineNo(self.nodes.len() as u16 - 1))
+/// The kind of name that a word begins a list of.
+fn kind_of_name(kind: Kind<'_>) -> Option<NameKind> {
+    match kind {
+        Kind::Keyword("free") => Some(NameKind::Free),
+        Kind::Keyword("restricted") => Some(NameKind::Restricted),
+        Kind::Keyword("received") => Some(NameKind::Received),
+        Kind::Keyword("exposed") => Some(NameKind::Exposed),
+        _ => None,
     }
-
-    fn set(&mut self, node: NodeNo, line: Line) {
-        self.nodes[node.index()].line = line;
-    }
-
-    /// The lines by number: labels if there are any, else top down and
-    /// first child first.
-    fn lines(&self, root: NodeNo) -> Parsed<Vec<Line>> {
-        let labelled = self.nodes.iter().any(|node| node.label.is_some());
-        let numbers = if labelled { self.labels(root)? } else { self.preorder(root) };
-        let mut lines = vec![Line::Nil; self.nodes.len()];
-        for (node, number) in self.nodes.iter().zip(&numbers) {
-            let child_of = |child: NodeNo| LineNo(numbers[child.index()] as u16);
-            lines[*number] = renumbered(node.line, child_of);
-        }
-        Ok(lines)
-    }
-
-    fn preorder(&self, root: NodeNo) -> Vec<usize> {
-        let mut numbers = vec![0; self.nodes.len()];
-        let mut open = vec![root];
-        let mut number = 0;
-        while let Some(node) = open.pop() {
-            numbers[node.index()] = number;
-            number += 1;
-            let children: Vec<_> = self.nodes[node.index()].line.children().collect();
-            open.extend(children.into_iter().rev());
-        }
-        numbers
-    }
-
-    /// The labels: each node has one, they are the numbers below the count,
-    /// the root's is 0, and a child's is above its parent's.
-    fn labels(&self, root: NodeNo) -> Parsed<Vec<usize>> {
-        let mut numbers: Vec<usize> = Vec::new();
-        for node in &self.nodes {
-            let (number, token) = node
-                .label
-                .ok_or_else(|| misplaced(node.token.place, "a label on each line or on none"))?;
-            if number >= self.nodes.len() || numbers.contains(&number) {
-                return Err(misplaced(token.place, "each number below the count of lines once"));
-            }
-            numbers.push(number);
-        }
-        if numbers[root.index()] != 0 {
-            return Err(misplaced(self.label_place(root), "the label 0 on the root"));
-        }
-        for (node, number) in self.nodes.iter().zip(&numbers) {
-            let mut children = node.line.children();
-            if let Some(child) = children.find(|child| numbers[child.index()] < *number) {
-                return Err(misplaced(self.label_place(child), "a label above its parent's"));
-            }
-        }
-        Ok(numbers)
-    }
-
-    fn label_place(&self, node: NodeNo) -> TextPlace {
-        let node = &self.nodes[node.index()];
-        node.label.map_or(node.token.place, |(_, token)| token.place)
-    }
-}
-
-fn misplaced(place: TextPlace, expected: &str) -> TextError {
-    TextError { place, expected: expected.to_string(), found: "another numbering".to_string() }
-}
-
-/// The line with its children renamed.
-pub fn renumbered(line: Line, child: impl Fn(LineNo) -> LineNo) -> Line {
-    let mut line = line;
-    match &mut line {
-        Line::Nil => {}
-        Line::Parallel { first, second } => {
-            *first = child(*first);
-            *second = child(*second);
-        }
-        Line::Replicate { next }
-        | Line::Restrict { next, .. }
-        | Line::Output { next, .. }
-        | Line::Input { next, .. }
-        | Line::Expose { next, .. }
-        | Line::Hide { next, .. }
-        | Line::Unhide { next, .. } => *next = child(*next),
-    }
-    line
 }

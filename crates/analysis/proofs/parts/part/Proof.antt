@@ -1,5 +1,5 @@
 -- `analysis::parts::part` meets its contract: by the verdict. Assumes nothing.
-use Rattle.analysis.proofs.Replies.{parts}
+use Rattle.analysis.proofs.Refused.{parts}
 use Rattle.analysis.proofs.parts.part.Statement.{statement}
 use Rattle.analysis.proofs.parts.part.Tie as tie
 
@@ -18,14 +18,14 @@ nothing-requires-2 c κs = search parts
 enum-known-v : tie.Need-enum-known-v
 enum-known-v c = search parts
 
-of-requires : tie.Need-of-requires
-of-requires c κs = search parts
+refused-requires : tie.Need-refused-requires
+refused-requires c κs = search parts
 
 enum-known-v-2 : tie.Need-enum-known-v-2
 enum-known-v-2 c = search parts
 
-of-requires-2 : tie.Need-of-requires-2
-of-requires-2 c κs = search parts
+refused-requires-2 : tie.Need-refused-requires-2
+refused-requires-2 c κs = search parts
 
 returns : tie.Need-returns
 returns c = search parts
@@ -48,9 +48,9 @@ part-spec =
     enum-told-2
     nothing-requires-2
     enum-known-v
-    of-requires
+    refused-requires
     enum-known-v-2
-    of-requires-2
+    refused-requires-2
     returns
     returns-2
     returns-3

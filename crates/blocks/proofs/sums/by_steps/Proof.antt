@@ -2,12 +2,12 @@
 use lib.ListN.{drop}
 use Rattle.definitions.specs.Words.{wordsOf}
 use Rattle.definitions.specs.Check.{checkFrom}
-use Rattle.blocks.proofs.Loops.{Stepped, sums}
+use Rattle.blocks.proofs.Loops.{StepResult, sums}
 use Rattle.blocks.proofs.sums.by_steps.Statement.{statement}
 use Rattle.blocks.proofs.sums.by_steps.Tie as tie
 
 abbrev Inv-loop : tie.InvT-loop
-Inv-loop s at c₀ p₀ left₀ c p left = Stepped s (checkFrom 1 (wordsOf 63 (drop at s))) p left c
+Inv-loop s at c₀ p₀ left₀ c p left = StepResult s (checkFrom 1 (wordsOf 63 (drop at s))) p left c
 
 abbrev μ-loop : tie.MeasureT-loop
 μ-loop s at c₀ p₀ left₀ c p left = left

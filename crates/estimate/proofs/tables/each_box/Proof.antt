@@ -1,13 +1,13 @@
--- `estimate::tables::each_box` meets its contract: the boxes passed are held. Assumes nothing.
+-- `estimate::tables::each_box` meets its contract: the boxes passed have no refusal. Assumes nothing.
 use Prim.Native.Nat.{_-_}
 use Rattle.definitions.proofs.Loops.{Passed}
-use Rattle.estimate.specs.Answers.{twoFault}
+use Rattle.estimate.specs.Blocks.{boxTablesFault}
 use Rattle.estimate.proofs.Laws.{images}
 use Rattle.estimate.proofs.tables.each_box.Statement.{statement}
 use Rattle.estimate.proofs.tables.each_box.Tie as tie
 
 abbrev Inv-loop : tie.InvT-loop
-Inv-loop image names boxes b₀ b = Passed boxes (twoFault image names) b
+Inv-loop image names boxes b₀ b = Passed boxes (boxTablesFault image names) b
 
 abbrev μ-loop : tie.MeasureT-loop
 μ-loop image names boxes b₀ b = boxes - b
@@ -15,8 +15,8 @@ abbrev μ-loop : tie.MeasureT-loop
 loop-holds : tie.Need-loop-holds Inv-loop μ-loop
 loop-holds c = search images
 
-two-requires : tie.Need-two-requires Inv-loop μ-loop
-two-requires c κs = search images
+box-tables-requires : tie.Need-box-tables-requires Inv-loop μ-loop
+box-tables-requires c κs = search images
 
 enum-told : tie.Need-enum-told Inv-loop μ-loop
 enum-told c = search images
@@ -46,7 +46,7 @@ each-box-spec =
     Inv-loop
     μ-loop
     loop-holds
-    two-requires
+    box-tables-requires
     enum-told
     returns
     enum-told-2

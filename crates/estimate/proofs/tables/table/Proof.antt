@@ -3,8 +3,8 @@ use Rattle.estimate.proofs.Laws.{tables}
 use Rattle.estimate.proofs.tables.table.Statement.{statement}
 use Rattle.estimate.proofs.tables.table.Tie as tie
 
-check-holds-requires : tie.Need-check-holds-requires
-check-holds-requires c κs = search tables
+check-matches-requires : tie.Need-check-matches-requires
+check-matches-requires c κs = search tables
 
 refused-requires : tie.Need-refused-requires
 refused-requires c κs = search tables
@@ -15,8 +15,8 @@ returns c = search tables
 heading-of-requires : tie.Need-heading-of-requires
 heading-of-requires c κs = search tables
 
-heading-fits-requires : tie.Need-heading-fits-requires
-heading-fits-requires c κs = search tables
+heading-matches-requires : tie.Need-heading-matches-requires
+heading-matches-requires c κs = search tables
 
 refused-requires-2 : tie.Need-refused-requires-2
 refused-requires-2 c κs = search tables
@@ -46,11 +46,11 @@ pub table-spec : {M : Type 1} → statement M
 table-spec =
     tie.close
     (tie.spec
-    check-holds-requires
+    check-matches-requires
     refused-requires
     returns
     heading-of-requires
-    heading-fits-requires
+    heading-matches-requires
     refused-requires-2
     returns-2
     refused-requires-3

@@ -1,0 +1,4 @@
+pub mod WordLaws
+pub mod SiteLaws
+pub mod ThreadLaws
+pub mod RecordLaws

@@ -1,0 +1,21 @@
+-- `clauses::clause8` meets its contract: one test. Assumes nothing.
+use Rattle.definitions.specs.Clauses.{clause8}
+use Rattle.clauses.proofs.Members.{walks}
+use Rattle.clauses.proofs.clause8.Statement.{statement}
+use Rattle.clauses.proofs.clause8.Tie as tie
+
+rho-requires : tie.Need-rho-requires
+rho-requires c κs = search walks
+
+hidden-requires : tie.Need-hidden-requires
+hidden-requires c κs = search walks
+
+is-subset-requires : tie.Need-is-subset-requires
+is-subset-requires c κs = search walks
+
+returns : tie.Need-returns
+unfolding clause8
+returns c = search walks
+
+pub clause8-spec : {M : Type 1} → statement M
+clause8-spec = tie.close (tie.spec rho-requires hidden-requires is-subset-requires returns)

@@ -1,0 +1,5 @@
+pub mod Decided
+pub mod Facts
+pub mod Ends
+pub mod States
+pub mod Rules

@@ -1,0 +1,28 @@
+-- The laws that each function's proof is searched in. Assumes nothing.
+use borrow.Author.Needs.{needs}
+use Rattle.definitions.proofs.Loops.{fails, holds}
+use Rattle.lookups.proofs.Ready.{read-head, read-boxes, ready-box, ready-length, ready-sites, ready-thread}
+use Rattle.deciding.proofs.Decided.{or-stop, or-pass, or-fail, line-nobody, line-is, line-wrong, zero-live, drop-number, spread-number, new-number, copy-number, expose-number, turn-stop, turn-yes, turn-none, channel-wrong, channel-wrong2, channel-same, channel-other, intra-nobody, intra-nobody2, intra-self, intra-number, kind-1, kind-2, kind-3, kind-4, kind-5, kind-6, kind-7, kind-8, kind-none}
+use Rattle.deciding.proofs.Facts.{input-listed, output-listed, turn-listed, ends-ready}
+use Rattle.deciding.proofs.Ends.{ends-none, ends-none2, ends-unfit, ends-private, ends-meet, between-wrong, between-wrong2, between-number, inter-nobody, inter-nobody2, inter-self, inter-number}
+use Rattle.deciding.proofs.States.{boxes-word, record-room, record-ready, act-nobody, act-inside, act-nobody2, act-inter}
+
+pub ruleset lines = (needs, ready-length, ready-thread, line-nobody, line-is, line-wrong)
+
+pub ruleset numbers = (needs, or-stop, or-pass, or-fail)
+
+pub ruleset turns = (needs, ready-length, ready-sites, ready-thread, zero-live, turn-listed, turn-stop, turn-yes, turn-none)
+
+pub ruleset channels = (needs, ready-length, ready-thread, input-listed, output-listed, channel-wrong, channel-wrong2, channel-same, channel-other)
+
+pub ruleset threads = (needs, ready-length, intra-nobody, intra-nobody2, intra-self, intra-number)
+
+pub ruleset kinds = (needs, ready-length, drop-number, spread-number, new-number, copy-number, expose-number, kind-1, kind-2, kind-3, kind-4, kind-5, kind-6, kind-7, kind-8, kind-none)
+
+pub ruleset ends = (needs, fails, holds, ends-none, ends-none2, ends-unfit, ends-private, ends-meet)
+
+pub ruleset betweens = (needs, ends-ready, between-wrong, between-wrong2, between-number)
+
+pub ruleset inters = (needs, ready-length, inter-nobody, inter-nobody2, inter-self, inter-number)
+
+pub ruleset states = (needs, read-head, boxes-word, record-room, record-ready, act-nobody, act-inside, act-nobody2, act-inter)

@@ -1,0 +1,3 @@
+pub mod LayoutOf
+pub mod Layouts
+pub mod Owners

@@ -1,0 +1,4 @@
+pub mod Edited
+pub mod Exposes
+pub mod Lefts
+pub mod ByKind

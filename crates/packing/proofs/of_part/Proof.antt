@@ -1,0 +1,43 @@
+-- `packing::of_part` meets its contract. Assumes nothing.
+use Rattle.packing.proofs.Laws.{packs}
+use Rattle.packing.proofs.of_part.Statement.{statement}
+use Rattle.packing.proofs.of_part.Tie as tie
+
+enum-told : tie.Need-enum-told
+enum-told c = search packs
+
+packed-requires : tie.Need-packed-requires
+packed-requires c κs = search packs
+
+enum-told-2 : tie.Need-enum-told-2
+enum-told-2 c = search packs
+
+packed-requires-2 : tie.Need-packed-requires-2
+packed-requires-2 c κs = search packs
+
+enum-known-v : tie.Need-enum-known-v
+enum-known-v c = search packs
+
+of-block-requires : tie.Need-of-block-requires
+of-block-requires c κs = search packs
+
+enum-known-v-2 : tie.Need-enum-known-v-2
+enum-known-v-2 c = search packs
+
+of-block-requires-2 : tie.Need-of-block-requires-2
+of-block-requires-2 c κs = search packs
+
+returns : tie.Need-returns
+returns c = search packs
+
+returns-2 : tie.Need-returns-2
+returns-2 c = search packs
+
+returns-3 : tie.Need-returns-3
+returns-3 c = search packs
+
+returns-4 : tie.Need-returns-4
+returns-4 c = search packs
+
+pub of-part-spec : {M : Type 1} → statement M
+of-part-spec = tie.close (tie.spec enum-told packed-requires enum-told-2 packed-requires-2 enum-known-v of-block-requires enum-known-v-2 of-block-requires-2 returns returns-2 returns-3 returns-4)

@@ -1,0 +1,83 @@
+// Answers as one number: a tag, a number and two places.
+ghost use mathlib.Core.Path.{_≡_};
+ghost use Rattle.refusals.specs.Answers.{answerIn};
+ghost use Rattle.analysis.specs.Answers.{verdictIn, replyIn};
+ghost use Rattle.packing.specs.Packed.{pack, packVerdict, packReply, callTag, packCall, noPart, packBlock, packPart};
+use analysis::Reply;
+use analysis::Verdict;
+use refusals::Answer;
+
+pub fn packed(tag: u8, n: u8, a: usize, b: usize) -> u64
+    ensures { λ r. ⌜ r ≡ pack tag n a b ⌝ }
+{
+    (tag as u64)
+        + 0x100 * (n as u64)
+        + 0x1_0000 * ((a % 65536) as u64)
+        + 0x1_0000_0000 * ((b % 65536) as u64)
+}
+
+pub fn of_verdict(v: Verdict) -> u64
+    ensures { λ r. ⌜ r ≡ packVerdict (verdictIn v) ⌝ }
+{
+    match v {
+        Verdict::Accepted => 0,
+        Verdict::Breaks(x) => packed(1, x.clause, x.boxno, x.place),
+        Verdict::RefusedModel(r) => packed(2, r.number, r.place, r.second),
+        Verdict::RefusedEstimate(r) => packed(3, r.number, r.place, r.second),
+    }
+}
+
+pub fn of_reply(a: Reply) -> u64
+    ensures { λ r. ⌜ r ≡ packReply (replyIn a) ⌝ }
+{
+    match a {
+        Reply::NotAccepted(v) => of_verdict(v),
+        Reply::Nobody => packed(6, 12, 0, 0),
+        Reply::Yes => 4,
+        Reply::No => 5,
+    }
+}
+
+fn tag(n: u8) -> u8
+    ensures { λ r. ⌜ r ≡ callTag n ⌝ }
+{
+    if n < 10 { 2 } else { 6 }
+}
+
+pub fn of_call(a: Answer) -> u64
+    ensures { λ r. ⌜ r ≡ packCall (answerIn a) ⌝ }
+{
+    match a {
+        Answer::NoRefusal => 0,
+        Answer::Refused(r) => packed(tag(r.number), r.number, r.place, r.second),
+    }
+}
+
+// A refused block, by the refusal's number and block. Only 2 to 5 have one.
+fn of_block(tag: u8, image: &[u8], n: u8, k: usize) -> u64
+    ensures { λ r. ⌜ r ≡ packBlock tag (now (image .entry)) n k ⌝ }
+{
+    if n < 2 {
+        return packed(2, 0, 0, 0);
+    }
+    if 5 < n {
+        return packed(2, 0, 0, 0);
+    }
+    if blocks::has_block(image, k) {
+        packed(tag, n, k, 512)
+    } else {
+        packed(2, 0, 0, 0)
+    }
+}
+
+// Where the refused block stands, by the verdict.
+pub fn of_part(model: &[u8], estimate: &[u8], v: Verdict) -> u64
+    ensures { λ r. ⌜ r ≡ packPart (now (model .entry)) (now (estimate .entry)) (verdictIn v) ⌝ }
+{
+    match v {
+        Verdict::Accepted => packed(2, 0, 0, 0),
+        Verdict::Breaks(_) => packed(2, 0, 0, 0),
+        Verdict::RefusedModel(r) => of_block(2, model, r.number, r.place),
+        Verdict::RefusedEstimate(r) => of_block(3, estimate, r.number, r.place),
+    }
+}

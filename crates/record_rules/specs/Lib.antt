@@ -1,0 +1,2 @@
+pub mod LineSets
+pub mod Rules

@@ -1,0 +1,2 @@
+pub mod NameSetLaws
+pub mod PlaceLaws

@@ -1,0 +1,4 @@
+pub mod Records
+pub mod Parts
+pub mod Stores
+pub mod Inserts

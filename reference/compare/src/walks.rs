@@ -1,0 +1,96 @@
+//! Walks from a start: each step compared, made or refused, and the words after it.
+
+use bm::Model;
+use bm::cases::crafted::{self, EVERY_CLAUSE, REFUSED_MOVES, RefusedMove};
+use bm::cases::random::{self, Size};
+use bm::cases::rng::Rng;
+use bm::cases::walk::{self, Taste};
+use bm::state::RECORD_WORDS;
+use bm::write::Draft;
+
+use crate::lent::Lent;
+use crate::report::{Part, Report};
+
+const WALKS: Part = Part { name: "walks", number: 4 };
+/// How many moves a walk has.
+const MOVES: usize = 50;
+
+/// Moves of which more are refused than made.
+const WILD: Taste = Taste { allowed: 40, growth: 20, crowd: false };
+
+/// A random model, or one that has every kind of line.
+pub fn some_model(rng: &mut Rng) -> Model {
+    let size = match rng.below(100) {
+        0..8 => return crafted::model(EVERY_CLAUSE),
+        8 => Size { boxes: 0, ..Size::small(rng) },
+        9..15 => Size::LARGEST,
+        15..40 => Size::small(rng),
+        40..60 => Size::typical(rng),
+        _ => Size::lively(rng),
+    };
+    random::model(rng, size)
+}
+
+/// A model and its image.
+pub struct Subject {
+    pub model: Model,
+    pub image: Vec<u8>,
+}
+
+impl Subject {
+    pub fn new(model: Model) -> Subject {
+        Subject { image: Draft::of(&model).image(), model }
+    }
+
+    /// Leaves the boxes of a state few stamps.
+    fn use_stamps(&self, rng: &mut Rng, lent: &mut Lent) {
+        for box_no in 0..self.model.boxes().len() {
+            lent.put(box_no * RECORD_WORDS, 65_535 - rng.below(3) as u32);
+        }
+    }
+
+    /// Makes moves, each chosen by the state that the last one left.
+    pub fn go_on(&self, report: &mut Report, rng: &mut Rng, lent: &mut Lent, walk: Walk) {
+        for _ in 0..walk.moves {
+            let mv = walk::next_move(rng, &self.model, lent.words(), walk.taste);
+            let _ = lent.step(&self.image, mv, report);
+        }
+    }
+}
+
+/// How many moves, and how they are chosen.
+#[derive(Clone, Copy)]
+pub struct Walk {
+    pub moves: usize,
+    pub taste: Taste,
+}
+
+fn random_walk(report: &mut Report, rng: &mut Rng) {
+    let subject = Subject::new(some_model(rng));
+    let mut lent = Lent::started(report, rng, &subject.image);
+    if rng.percent(15) {
+        subject.use_stamps(rng, &mut lent);
+    }
+    let taste = [Taste::PLAIN, Taste::LIVELY, Taste::GROWING, WILD][rng.below(4)];
+    subject.go_on(report, rng, &mut lent, Walk { moves: MOVES, taste });
+}
+
+/// The walk that leads to a refusal, and on from there.
+fn crafted_walk(report: &mut Report, rng: &mut Rng, refused: &RefusedMove) {
+    let subject = Subject::new(crafted::model(refused.text));
+    let mut lent = Lent::started(report, rng, &subject.image);
+    lent.put(0, refused.stamp);
+    for mv in refused.moves() {
+        let _ = lent.step(&subject.image, mv, report);
+    }
+    subject.go_on(report, rng, &mut lent, Walk { moves: 5, taste: WILD });
+}
+
+pub fn compare(report: &mut Report) {
+    for number in 0..report.plan.cases {
+        let mut rng = report.begin(WALKS, number);
+        random_walk(report, &mut rng);
+        let refused = &REFUSED_MOVES[rng.below(REFUSED_MOVES.len())];
+        crafted_walk(report, &mut rng, refused);
+    }
+}
