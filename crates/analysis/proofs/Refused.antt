@@ -3,45 +3,33 @@ use mathlib.Core.Path.{_≡_, refl, sym, ap, subst, _∙_}
 use mathlib.Core.Bool.{Bool, true, false}
 use mathlib.Core.List.{List, []}
 use mathlib.Core.Option.{Option, none, some}
-use Prim.Native.Nat.{ℕ, _+_, _-_, _*_, _%_, _≤_, _<_}
+use Prim.Native.Nat.{ℕ, _+_, _-_, _*_, _≤_, _<_}
 use native.Mathlib.Omega.{arith}
 use borrow.Author.Needs.{needs}
 use denote.Ref.{RefT, now}
-use lib.ListN.{length, take, drop, length-take, length-drop, drop-of-length-le}
-use Rattle.definitions.specs.Bounded.{_and_, _or_, _isnt_, _below_, _upto_, someIf, orElse}
+use lib.ListN.{length, take, drop, length-take, length-drop}
+use Rattle.definitions.specs.Bounded.{_and_, _upto_}
 use Rattle.definitions.specs.Words.{blockOf}
 use Rattle.definitions.specs.Answer as paper
-use Rattle.definitions.specs.Image.{nameCount, boxesOf, modelOf}
-use Rattle.definitions.specs.ReadModel.{lengthFault, blocksFault, modelFault, readModel}
-use Rattle.definitions.specs.Estimate.{estimateOf}
+use Rattle.definitions.specs.Image.{nameCount, boxesOf}
+use Rattle.definitions.specs.ReadModel.{readModel}
 use Rattle.definitions.specs.ReadEstimate.{readEstimate}
 use Rattle.definitions.specs.Clauses as cl
 use Rattle.definitions.specs.ShutOff as shut
-use Rattle.definitions.proofs.Bounded.{and-iff, upto-iff, true-of, false-of, of-true, not-false}
-use Rattle.definitions.proofs.ReadModel.{length-iff}
-use Rattle.definitions.proofs.Faults.{agree-iff}
+use Rattle.definitions.proofs.Bounded.{and-iff, upto-iff, true-of, false-of}
 use Rattle.refusals.specs.declared.Refusal.{Refusal}
 use Rattle.refusals.specs.Answers.{refusalIn}
-use Rattle.first_broken.specs.declared.Broken.{Broken}
+use Rattle.record_clauses.specs.declared.Broken.{Broken}
 use Rattle.analysis.specs.declared.Verdict.{Verdict}
 use Rattle.analysis.specs.declared.Verdict.the-variants.{Accepted, Breaks, RefusedModel, RefusedEstimate}
 use Rattle.analysis.specs.Answers.{verdictIn}
-use Rattle.analysis.specs.Known.{WholeIfBlock, WholeBlocks}
+use Rattle.analysis.specs.Known.{BlockThere, RefusedThere}
 use Rattle.analysis.specs.Places.{At, Stands, RefusedStands}
+use Rattle.analysis.proofs.There.{model-there, estimate-there}
 
 pub whole-is : (image r : List ℕ) (k : ℕ) → r ≡ take (512 * k + 512 - 512 * k) (drop (512 * k) image) → r ≡ blockOf image k
 unfolding blockOf
 whole-is image r k e = e ∙ ap (λ (n : ℕ). take n (drop (512 * k) image)) (let z : 512 * k + 512 - 512 * k ≡ 512 = omega arith in z)
-
-pub block-there : (image : List ℕ) (k : ℕ) (b : Bool) → b ≡ (512 * (k + 1) upto length image) → b ≡ true → 512 * (k + 1) ≤ length image
-block-there image k b e t = upto-iff (512 * (k + 1)) (length image) .0 (of-true (sym e ∙ t))
-
-pub block-missing : (image r : List ℕ) (k : ℕ) (b : Bool) → length image % 512 ≡ 0 → b ≡ (512 * (k + 1) upto length image) → b ≡ false → r ≡ []
-    → r ≡ blockOf image k
-unfolding blockOf
-block-missing image r k b h e t q =
-    let f : 512 * (k + 1) ≤ length image → ⊥ = λ l. not-false (sym e ∙ t) (upto-iff (512 * (k + 1)) (length image) .1 l) in
-    q ∙ sym (ap (take 512) (drop-of-length-le image (let l : length image ≤ 512 * k = omega arith in l)))
 
 module _ (image r : List ℕ) (n k : ℕ) where
   is-in : (x : Bool) → (2 upto n and n upto 5) ≡ x → shut.refusedPart image (paper.refusal n k 0) ≡ elim x [ true ↦ blockOf image k | false ↦ [] ]
@@ -72,8 +60,8 @@ module _ (model image r : RefT (List ℕ)) (k : ℕ) where
     block = λ _. a;
   }
 
-pub if-whole : (image : List ℕ) (n : ℕ) → WholeIfBlock image n → 2 ≤ n → length image % 512 ≡ 0
-if-whole image n w h = w .whole h
+pub if-there : (image : List ℕ) (n k : ℕ) → BlockThere image n k → 2 ≤ n → n ≤ 5 → 512 * (k + 1) ≤ length image
+if-there image n k w l h = w .there l h
 
 -- the bytes for a verdict
 module _ (model estimate p : List ℕ) (v : Verdict) where
@@ -113,33 +101,12 @@ module _ (model estimate r : RefT (List ℕ)) (v : Verdict) where
   unfolding RefusedStands
   stands-estimate x q s = as-verdict (RefusedEstimate x) q s
 
-module _ (model estimate : List ℕ) (v : Verdict) (w : WholeBlocks model estimate (verdictIn v)) (r : Refusal) where
-  pub if-model : v ≡ RefusedModel r → WholeIfBlock model (r .number)
+module _ (model estimate : List ℕ) (v : Verdict) (w : RefusedThere model estimate (verdictIn v)) (r : Refusal) where
+  pub if-model : v ≡ RefusedModel r → BlockThere model (r .number) (r .place)
   if-model q = w .inModel (refusalIn r) (ap verdictIn q)
 
-  pub if-estimate : v ≡ RefusedEstimate r → WholeIfBlock estimate (r .number)
+  pub if-estimate : v ≡ RefusedEstimate r → BlockThere estimate (r .number) (r .place)
   if-estimate q = w .inEstimate (refusalIn r) (ap verdictIn q)
-
--- a refusal past 1 stands in an image of whole blocks
-past-1 : (b : Bool) (rest : Option paper.Refusal) (r : paper.Refusal) → orElse (someIf b (paper.refusal 1 0 0)) rest ≡ some r → 2 ≤ r .number → b ≡ false
-past-1 true rest r e h =
-    let s : paper.refusal 1 0 0 ≡ r = cc in
-    absurd (omega (arith, ap (λ (y : paper.Refusal). y .number) s))
-past-1 false rest r e h = refl
-
-model-whole : (image : List ℕ) (r : paper.Refusal) → readModel image ≡ some r → 2 ≤ r .number → length image % 512 ≡ 0
-unfolding readModel lengthFault
-model-whole image r e h =
-    let bad = length image % 512 isnt 0 or length image below 512 or 20992 below length image in
-    length-iff image .0 (ap (λ (b : Bool). someIf b (paper.refusal 1 0 0)) (past-1 bad (orElse (blocksFault image) (modelFault (modelOf image))) r e h)) .blocks
-
-estimate-whole : (names boxes : ℕ) (image : List ℕ) (r : paper.Refusal) → readEstimate names boxes image ≡ some r → 2 ≤ r .number
-    → length image % 512 ≡ 0
-unfolding readEstimate
-estimate-whole names boxes image r e h =
-    let n : length image ≡ 512 * (1 + 2 * boxes) = agree-iff (length image) (512 * (1 + 2 * boxes)) (paper.refusal 1 0 0) .0
-    (ap (λ (b : Bool). someIf b (paper.refusal 1 0 0)) (past-1 (length image isnt 512 * (1 + 2 * boxes)) _ r e h)) in
-    omega arith
 
 -- who is refused, by the verdict
 from-model : (a b : Option paper.Refusal) (r : paper.Refusal) → cl.afterModel a (cl.afterEstimate b cl.accepted) ≡ cl.refusedModel r → a ≡ some r
@@ -152,15 +119,37 @@ from-estimate (some x) b r e = cc
 from-estimate none (some x) r e = cc
 from-estimate none none r e = cc
 
-pub whole-both : (model estimate : List ℕ) (v : cl.Verdict) → v ≡ cl.readBoth model estimate → WholeBlocks model estimate v
+pub there-both : (model estimate : List ℕ) (v : cl.Verdict) → v ≡ cl.readBoth model estimate → RefusedThere model estimate v
 unfolding cl.readBoth
-whole-both model estimate v ev =
+there-both model estimate v ev =
     let a = readModel model in
     let b = readEstimate (nameCount model) (boxesOf model) estimate in
     record {
-      inModel = λ r e. record { whole = λ h. model-whole model r (from-model a b r (sym ev ∙ e)) h };
-      inEstimate = λ r e. record { whole = λ h. estimate-whole (nameCount model) (boxesOf model) estimate r (from-estimate a b r (sym ev ∙ e)) h };
+      inModel = λ r e. record { there = model-there model r (from-model a b r (sym ev ∙ e)) };
+      inEstimate = λ r e. record { there = estimate-there estimate (nameCount model) (boxesOf model) r (from-estimate a b r (sym ev ∙ e)) };
     }
+
+-- the refused block of a refusal 2 to 5 has 512 bytes
+module _ (r : paper.Refusal) (l : 2 ≤ r .number) (h : r .number ≤ 5) where
+  part-bytes : (image : List ℕ) → 512 * (r .place + 1) ≤ length image → length (shut.refusedPart image r) ≡ 512
+  unfolding shut.refusedPart blockOf
+  part-bytes image t =
+      ap (λ (b : Bool). length {A = ℕ} (elim b as (λ _. List ℕ) [ true ↦ blockOf image (r .place) | false ↦ [] ]))
+      (true-of (2 upto r .number and r .number upto 5) (and-iff (2 upto r .number) (r .number upto 5) .1 (upto-iff 2 (r .number) .1 l, upto-iff (r .number) 5 .1 h)))
+      ∙ omega (arith, length-take 512 (drop (512 * r .place) image), length-drop (512 * r .place) image)
+
+  module _ (model estimate : List ℕ) where
+    pub model-bytes : cl.readBoth model estimate ≡ cl.refusedModel r → length (shut.refusedBlock model estimate) ≡ 512
+    unfolding shut.refusedBlock
+    model-bytes e =
+        ap (λ (v : cl.Verdict). length (shut.refusedIn model estimate v)) e
+        ∙ part-bytes model (there-both model estimate (cl.readBoth model estimate) refl .inModel r e .there l h)
+
+    pub estimate-bytes : cl.readBoth model estimate ≡ cl.refusedEstimate r → length (shut.refusedBlock model estimate) ≡ 512
+    unfolding shut.refusedBlock
+    estimate-bytes e =
+        ap (λ (v : cl.Verdict). length (shut.refusedIn model estimate v)) e
+        ∙ part-bytes estimate (there-both model estimate (cl.readBoth model estimate) refl .inEstimate r e .there l h)
 
 -- a verdict of reading both
 pub part-is : (model estimate p : List ℕ) (v : cl.Verdict) → v ≡ cl.readBoth model estimate → p ≡ shut.refusedIn model estimate v → p ≡ shut.refusedBlock model estimate
@@ -171,6 +160,6 @@ pub stands-is : (model estimate r : RefT (List ℕ)) (v : cl.Verdict) → v ≡ 
     → RefusedStands model estimate (cl.readBoth (now model) (now estimate)) r
 stands-is model estimate r v ev s = subst (λ (w : cl.Verdict). RefusedStands model estimate w r) ev s
 
-pub ruleset blocks = (needs, whole-is, block-there, block-missing, empty-stands, block-stands, part-below, part-above, part-in, if-whole)
+pub ruleset blocks = (needs, whole-is, empty-stands, block-stands, part-below, part-above, part-in, if-there)
 
-pub ruleset parts = (needs, part-accepted, part-breaks, part-model, part-estimate, stands-accepted, stands-breaks, stands-model, stands-estimate, if-model, if-estimate, whole-both, part-is, stands-is)
+pub ruleset parts = (needs, part-accepted, part-breaks, part-model, part-estimate, stands-accepted, stands-breaks, stands-model, stands-estimate, if-model, if-estimate, there-both, part-is, stands-is)

@@ -23,10 +23,10 @@ use Rattle.refusals.proofs.Answers.{no-refusal, is-none}
 use Rattle.layouts.specs.declared.Layout.{Layout}
 use Rattle.layouts.specs.LayoutOf.{LayoutOf}
 use Rattle.clauses.specs.Known.{EstimateOfNames}
-use Rattle.first_broken.specs.declared.Broken.{Broken}
-use Rattle.first_broken.specs.declared.Found.{Found}
-use Rattle.first_broken.specs.declared.Found.the-variants.{Nothing, First}
-use Rattle.first_broken.specs.Found.{brokenIn, foundIn}
+use Rattle.record_clauses.specs.declared.Broken.{Broken}
+use Rattle.record_clauses.specs.declared.Found.{Found}
+use Rattle.record_clauses.specs.declared.Found.the-variants.{Nothing, First}
+use Rattle.record_clauses.specs.Found.{brokenIn, foundIn}
 use Rattle.first_broken.specs.Known.{Unrefused}
 use Rattle.first_broken.proofs.Facts.{names-boxes}
 use Rattle.analysis.specs.declared.Verdict.{Verdict}
@@ -46,7 +46,7 @@ module _ (f : Found) where
 -- the estimate, read for the counts of the layout
 module _ (model estimate : List ℕ) (l : Layout) (h : LayoutOf model l) (a : Answer) (ea : answerIn a ≡ readEstimate (l .names) (l .boxes) estimate) where
   counted : answerIn a ≡ readEstimate (nameCount model) (boxesOf model) estimate
-  counted = ea ∙ ap₂ (λ (n b : ℕ). readEstimate n b estimate) (h .names) (h .boxes)
+  counted = ea ∙ ap₂ (λ (n b : ℕ). readEstimate n b estimate) (h .frame .names) (h .frame .boxes)
 
   pub read-unrefused : readModel model ≡ none → a ≡ NoRefusal → Unrefused model estimate
   read-unrefused m q = record { model = m; estimate = is-none (readEstimate (nameCount model) (boxesOf model) estimate) a counted q }
@@ -108,7 +108,7 @@ module _ (model estimate : List ℕ) (l : Layout) (h : LayoutOf model l) (n : �
       ≡ elim x [ true ↦ shut.isShutOff (shut.shutOff (estimateOf estimate) (boxesOf model) n) | false ↦ shut.nobody (paper.unplaced 12) ]
   is-below x e =
       ap (λ (y : Bool). elim y [ true ↦ shut.isShutOff (shut.shutOff (estimateOf estimate) (boxesOf model) n) | false ↦ shut.nobody (paper.unplaced 12) ])
-      (ap (λ (b : ℕ). n below b) (sym (h .boxes)) ∙ e)
+      (ap (λ (b : ℕ). n below b) (sym (h .frame .boxes)) ∙ e)
 
   pub reply-nobody : l .boxes ≤ n → shut.nobody (paper.unplaced 12) ≡ shut.boxReply model estimate n
   reply-nobody k = sym (is-below false (false-of (n below l .boxes) (λ t. let i = below-iff n (l .boxes) .0 t in absurd (omega arith))))
@@ -116,10 +116,10 @@ module _ (model estimate : List ℕ) (l : Layout) (h : LayoutOf model l) (n : �
   pub reply-is : (b x : Bool) → n < l .boxes → b ≡ shut.shutOff (estimateOf estimate) (l .boxes) n → b ≡ x → shut.isShutOff x ≡ shut.boxReply model estimate n
   reply-is b x k e q =
       sym (is-below true (true-of (n below l .boxes) (below-iff n (l .boxes) .1 k))
-      ∙ ap shut.isShutOff (ap (λ (c : ℕ). shut.shutOff (estimateOf estimate) c n) (sym (h .boxes)) ∙ sym e ∙ q))
+      ∙ ap shut.isShutOff (ap (λ (c : ℕ). shut.shutOff (estimateOf estimate) c n) (sym (h .frame .boxes)) ∙ sym e ∙ q))
 
   pub layout-names : Unrefused model estimate → EstimateOfNames estimate (l .boxes)
-  layout-names ready = names-boxes model estimate ready (l .boxes) (h .boxes)
+  layout-names ready = names-boxes model estimate ready (l .boxes) (h .frame .boxes)
 
 module _ (model estimate : List ℕ) (v : Verdict) (ev : verdictIn v ≡ cl.check model estimate) where
   -- accepted: neither image is refused

@@ -4,7 +4,7 @@ use Rattle.definitions.specs.Answer.{unplaced}
 use Rattle.definitions.specs.Clauses as clauses
 use Rattle.definitions.specs.ShutOff as shut
 use Rattle.refusals.specs.Answers.{refusalIn}
-use Rattle.first_broken.specs.Found.{brokenIn}
+use Rattle.record_clauses.specs.Found.{brokenIn}
 use Rattle.analysis.specs.declared.Verdict.{Verdict}
 use Rattle.analysis.specs.declared.Verdict.the-variants.{Accepted, Breaks, RefusedModel, RefusedEstimate}
 use Rattle.analysis.specs.declared.Reply.{Reply}

@@ -1,7 +1,7 @@
 -- What is known of the images by what reading and checking answered. Assumes nothing.
 use mathlib.Core.Path.{_≡_}
 use mathlib.Core.List.{List}
-use Prim.Native.Nat.{ℕ, _%_, _≤_}
+use Prim.Native.Nat.{ℕ, _+_, _*_, _≤_}
 use lib.ListN.{length}
 use Rattle.definitions.specs.Answer.{Refusal}
 use Rattle.definitions.specs.Clauses.{Verdict, refusedModel, refusedEstimate}
@@ -14,10 +14,10 @@ use Rattle.layouts.specs.LayoutOf.{LayoutOf}
 pub record LayoutIfRead (model : List ℕ) (answer : Answer) (l : Layout) : Type 0 where
   pub layout : answer ≡ NoRefusal → LayoutOf model l
 
--- an image that is refused for a block is whole blocks
-pub record WholeIfBlock (image : List ℕ) (number : ℕ) : Type 0 where
-  pub whole : 2 ≤ number → length image % 512 ≡ 0
+-- a refused block is there whole
+pub record BlockThere (image : List ℕ) (number k : ℕ) : Type 0 where
+  pub there : 2 ≤ number → number ≤ 5 → 512 * (k + 1) ≤ length image
 
-pub record WholeBlocks (model estimate : List ℕ) (v : Verdict) : Type 0 where
-  pub inModel : (r : Refusal) → v ≡ refusedModel r → WholeIfBlock model (r .number)
-  pub inEstimate : (r : Refusal) → v ≡ refusedEstimate r → WholeIfBlock estimate (r .number)
+pub record RefusedThere (model estimate : List ℕ) (v : Verdict) : Type 0 where
+  pub inModel : (r : Refusal) → v ≡ refusedModel r → BlockThere model (r .number) (r .place)
+  pub inEstimate : (r : Refusal) → v ≡ refusedEstimate r → BlockThere estimate (r .number) (r .place)

@@ -10,14 +10,14 @@ ghost use Rattle.definitions.specs.Clauses as clauses;
 ghost use Rattle.definitions.specs.ShutOff as shut;
 ghost use Rattle.refusals.specs.Answers.{answerIn};
 ghost use Rattle.layouts.specs.LayoutOf.{LayoutOf};
-ghost use Rattle.first_broken.specs.Found.{foundIn};
+ghost use Rattle.record_clauses.specs.Found.{foundIn};
 ghost use Rattle.first_broken.specs.Known.{Unrefused};
 ghost use Rattle.analysis.specs.Answers.{verdictIn, replyIn};
 ghost use Rattle.analysis.specs.Known.{LayoutIfRead};
 use crate::Reply;
 use crate::Verdict;
-use first_broken::Found;
 use layouts::Layout;
+use record_clauses::Found;
 use refusals::Answer;
 
 fn found(f: Found) -> Verdict

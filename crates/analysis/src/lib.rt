@@ -4,11 +4,11 @@ ghost use Rattle.definitions.specs.Clauses as clauses;
 ghost use Rattle.definitions.specs.ShutOff as shut;
 ghost use Rattle.analysis.specs.Answers.{verdictIn, replyIn};
 ghost use Rattle.analysis.specs.Places.{RefusedStands};
-use first_broken::Broken;
+use record_clauses::Broken;
 use refusals::Refusal;
 
 mod answers;
-mod parts;
+pub mod parts;
 
 pub enum Verdict {
     Accepted,

@@ -1,13 +1,13 @@
 // The refused block, as a part of the image that it stands in.
 ghost use mathlib.Core.Path.{_≡_};
 ghost use mathlib.Core.List.{[]};
-ghost use Prim.Native.Nat.{_+_, _*_, _%_, _≤_};
+ghost use Prim.Native.Nat.{_+_, _*_, _≤_};
 ghost use lib.ListN.{length};
 ghost use Rattle.definitions.specs.Words.{blockOf};
 ghost use Rattle.definitions.specs.Answer.{refusal};
 ghost use Rattle.definitions.specs.ShutOff as shut;
 ghost use Rattle.analysis.specs.Answers.{verdictIn};
-ghost use Rattle.analysis.specs.Known.{WholeIfBlock, WholeBlocks};
+ghost use Rattle.analysis.specs.Known.{BlockThere, RefusedThere};
 ghost use Rattle.analysis.specs.Places.{At, Stands, RefusedStands};
 use crate::Verdict;
 
@@ -27,21 +27,9 @@ fn whole<'a>(image: &'a [u8], k: usize) -> &'a [u8]
     &image[start..end]
 }
 
-// Block k of an image of whole blocks; past its end, nothing.
-fn block<'a>(model: &'a [u8], image: &'a [u8], k: usize) -> &'a [u8]
-    requires { ⌜ length (now image) % 512 ≡ 0 ⌝ }
-    ensures { λ r. ⌜ (now r ≡ blockOf (now (image .entry)) k) × Stands (model .entry) (image .entry) r k ⌝ }
-{
-    if blocks::has_block(image, k) {
-        whole(image, k)
-    } else {
-        nothing(model)
-    }
-}
-
 // The block of a refusal, by its number. Only 2 to 5 have one.
 fn refused<'a>(model: &'a [u8], image: &'a [u8], number: u8, k: usize) -> &'a [u8]
-    requires { ⌜ WholeIfBlock (now image) number ⌝ }
+    requires { ⌜ BlockThere (now image) number k ⌝ }
     ensures { λ r. ⌜ (now r ≡ shut.refusedPart (now (image .entry)) (refusal number k 0)) × Stands (model .entry) (image .entry) r k ⌝ }
 {
     if number < 2 {
@@ -50,12 +38,12 @@ fn refused<'a>(model: &'a [u8], image: &'a [u8], number: u8, k: usize) -> &'a [u
     if 5 < number {
         return nothing(model);
     }
-    block(model, image, k)
+    whole(image, k)
 }
 
 // What is handed back for a verdict: where there is no refused block, an empty part of the model.
 pub fn part<'a>(model: &'a [u8], estimate: &'a [u8], v: Verdict) -> &'a [u8]
-    requires { ⌜ WholeBlocks (now model) (now estimate) (verdictIn v) ⌝ }
+    requires { ⌜ RefusedThere (now model) (now estimate) (verdictIn v) ⌝ }
     ensures { λ r. ⌜ (now r ≡ shut.refusedIn (now (model .entry)) (now (estimate .entry)) (verdictIn v)) × RefusedStands (model .entry) (estimate .entry) (verdictIn v) r ⌝ }
 {
     match v {

@@ -6,15 +6,16 @@ use mathlib.Core.Option.{none, some}
 use Prim.Native.Nat.{ℕ, zero-le, _+_, _*_, _/_, _≤_, _<_}
 use native.Mathlib.Nat.{le-refl}
 use native.Mathlib.Omega.{arith}
-use native.Mathlib.Decide.{ℕ-discrete}
 use borrow.Author.Needs.{needs}
-use lib.Dec.{T, eqb, ltb, lit<}
+use lib.Dec.{eqb, ltb, lit<}
 use lib.ListN.{length, drop}
-use Rattle.definitions.specs.Bounded.{_implies_, _is_, _below_, _upto_}
+use Rattle.definitions.specs.Bounded.{_is_, _below_, _upto_}
 use Rattle.definitions.specs.Words.{byteAt, wordAt, wordsOf, blockOf, numberOf, kindOfBlock, boxOf, countOf, spareOf, dataWord}
 use Rattle.definitions.specs.Check.{checkFrom, checkOf, storedCheck}
 use Rattle.definitions.specs.ReadModel.{clearFrom}
-use Rattle.definitions.proofs.Bounded.{is-iff, upto-iff, below-iff, implies-iff, all-iff, true-of, of-true, false-of, same-test}
+use Rattle.definitions.proofs.Bounded.{is-iff, upto-iff, below-iff, of-true, same-test}
+use Rattle.definitions.proofs.Loops.{ZeroRun, zeros-start, zeros-turn, zeros-end}
+use Rattle.definitions.proofs.ReadModel.{clear-iff}
 use Rattle.definitions.proofs.Words.{byteAt-block, dataWord-block}
 use Rattle.definitions.proofs.Check.{checkOf-block, storedCheck-block}
 use Rattle.blocks.specs.declared.inside.Heading.{Heading}
@@ -72,40 +73,13 @@ module _ {A : Type 0} (image : List ℕ) (k : ℕ) (f : List ℕ → A) (b : Boo
   unfolding ofBlock
   of-missing t = sym (ap (λ (x : Bool). elim x [ true ↦ some (f (blockOf image k)) | false ↦ none ]) (sym e ∙ t))
 
--- ---- data words that are zero, from a number up to i
+-- ---- data words that are zero, from a number on
 
-pub record Cleared (block : List ℕ) (from i : ℕ) : Type 0 where
-  pub start : from ≤ i
-  pub zeros : (j : ℕ) → from ≤ j → j < i → dataWord block j ≡ 0
+pub clear-is : (block : List ℕ) (from i w : ℕ) → ZeroRun (dataWord block) from 62 i w → 62 ≤ i → eqb w 0 ≡ clearFrom from block
+unfolding _is_
+clear-is block from i w p h =
+    let zero = zeros-end (dataWord block) from 62 i w p h in
+    same-test (w is 0) (clearFrom from block) (λ t. clear-iff from block .1 (λ j l q. zero .0 (is-iff w 0 .0 t) j l q))
+    (λ t. is-iff w 0 .1 (zero .1 (λ j l q. clear-iff from block .0 t j l q)))
 
-pub cleared-start : (block : List ℕ) (from : ℕ) → Cleared block from from
-cleared-start block from = record { start = le-refl from; zeros = λ j l h. absurd (omega arith) }
-
-pub cleared-turn : (block : List ℕ) (from i w : ℕ) → Cleared block from i → w ≡ dataWord block i → w ≡ 0 → Cleared block from (i + 1)
-cleared-turn block from i w c e z = record { start = omega (arith, c .start); zeros = λ j l h. pick j l h (ℕ-discrete i j) }
-  where
-    pick : (j : ℕ) → from ≤ j → j < i + 1 → Dec (i ≡ j) → dataWord block j ≡ 0
-    pick j l h (yes q) = ap (dataWord block) (sym q) ∙ sym e ∙ z
-    pick j l h (no q) = c .zeros j l (omega arith)
-
-clear-iff : (block : List ℕ) (from : ℕ) → T (clearFrom from block) → (j : ℕ) → j < 62 → from ≤ j → dataWord block j ≡ 0
-unfolding clearFrom
-clear-iff block from t j l h =
-    is-iff (dataWord block j) 0 .0
-    (implies-iff (from upto j) (dataWord block j is 0) .0 (all-iff 62 (λ i. from upto i implies dataWord block i is 0) .0 t j l) (upto-iff from j .1 h))
-
-pub cleared-stop : (block : List ℕ) (from i w : ℕ) → Cleared block from i → i < 62 → w ≡ dataWord block i → (w ≡ 0 → ⊥)
-    → false ≡ clearFrom from block
-cleared-stop block from i w c l e f =
-    sym (false-of (clearFrom from block) (λ t. f (e ∙ clear-iff block from t i l (c .start))))
-
-pub cleared-end : (block : List ℕ) (from i : ℕ) → Cleared block from i → 62 ≤ i → true ≡ clearFrom from block
-unfolding clearFrom
-cleared-end block from i c l =
-    sym
-    (true-of (clearFrom from block)
-    (all-iff 62 (λ j. from upto j implies dataWord block j is 0) .1
-    (λ j h. implies-iff (from upto j) (dataWord block j is 0) .1
-    (λ t. is-iff (dataWord block j) 0 .1 (c .zeros j (upto-iff from j .0 t) (omega arith))))))
-
-pub ruleset blocks = (needs, le-refl, zero-le, of-there, of-missing, check-of, data-of, check-is, there, cleared-start, cleared-turn, cleared-stop, cleared-end)
+pub ruleset blocks = (needs, le-refl, zero-le, of-there, of-missing, check-of, data-of, check-is, there, zeros-start, zeros-turn, clear-is)

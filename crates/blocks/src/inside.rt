@@ -55,19 +55,18 @@ pub fn data_word(image: &[u8], k: usize, i: usize) -> u64
     words::word(image, 512 * k + (8 + 8 * i))
 }
 
-// Data words from a number on are zero.
+// Data words from a number on are zero: joined, and tested once.
 pub fn clear_from(image: &[u8], k: usize, from: usize) -> bool
     requires { ⌜ 512 * (k + 1) ≤ length (now image) ⌝ }
     ensures { λ r. ⌜ r ≡ clearFrom from (blockOf (now (image .entry)) k) ⌝ }
 {
+    let mut w: u64 = 0;
     let mut i = from;
     while i < 62 {
-        if data_word(image, k, i) != 0 {
-            return false;
-        }
+        w = w | data_word(image, k, i);
         i += 1;
     }
-    true
+    w == 0
 }
 
 // The check that a block ought to have.

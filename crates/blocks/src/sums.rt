@@ -1,10 +1,10 @@
-// The check's arithmetic, modulo 2^64 on purpose, and the check two ways: step by step, and by the table of the powers of 31.
+// The check's arithmetic, modulo 2^64 on purpose, and the check two ways: step by step, and by the table of the powers of 961, 31 squared.
 ghost use mathlib.Core.Path.{_≡_};
 ghost use Prim.Native.Nat.{_+_, _*_, _%_, _^_, _<_, _≤_};
 ghost use lib.ListN.{length, drop};
-ghost use Rattle.definitions.specs.Words.{wordsOf};
+ghost use Rattle.definitions.specs.Words.{wordAt, wordsOf};
 ghost use Rattle.definitions.specs.Check.{checkFrom};
-ghost use Rattle.blocks.specs.Powers.{powers};
+ghost use Rattle.blocks.specs.Powers.{powers, squares};
 
 // 31 x: five doublings, and x off.
 pub fn times31(x: u64) -> u64
@@ -58,6 +58,7 @@ pub fn by_steps(s: &[u8], at: usize) -> u64
     c
 }
 
+// 961, which is 31 squared, to the powers 0 to 31.
 const POWERS: [u64; 64] = [
     1,
     31,
@@ -125,34 +126,91 @@ const POWERS: [u64; 64] = [
     6027936552802386911,
 ];
 
-fn power(t: &[u64; 64], k: usize) -> u64
-    requires { ⌜ (now t ≡ powers) × (k < 64) ⌝ }
-    ensures { λ r. ⌜ r ≡ 31 ^ k % 2 ^ 64 ⌝ }
+// The powers of 31.
+fn powers_of_31() -> [u64; 64]
+    ensures { λ r. ⌜ r ≡ powers ⌝ }
+{
+    POWERS
+}
+
+// Every second one: the powers of 961, which is 31 squared.
+fn every_second() -> [u64; 32]
+    ensures { λ r. ⌜ r ≡ squares ⌝ }
+{
+    let t = powers_of_31();
+    [
+        t[0],
+        t[2],
+        t[4],
+        t[6],
+        t[8],
+        t[10],
+        t[12],
+        t[14],
+        t[16],
+        t[18],
+        t[20],
+        t[22],
+        t[24],
+        t[26],
+        t[28],
+        t[30],
+        t[32],
+        t[34],
+        t[36],
+        t[38],
+        t[40],
+        t[42],
+        t[44],
+        t[46],
+        t[48],
+        t[50],
+        t[52],
+        t[54],
+        t[56],
+        t[58],
+        t[60],
+        t[62],
+    ]
+}
+
+fn square(t: &[u64; 32], k: usize) -> u64
+    requires { ⌜ (now t ≡ squares) × (k < 32) ⌝ }
+    ensures { λ r. ⌜ r ≡ 961 ^ k % 2 ^ 64 ⌝ }
 {
     t[k]
 }
 
-// The same check: each word times its power, and the 1 of the start times the highest.
-fn by_powers(t: &[u64; 64], s: &[u8], at: usize) -> u64
-    requires { ⌜ (now t ≡ powers) × (at + 504 ≤ length (now s)) ⌝ }
+// Two words a and b, as 31 a + b.
+fn two(s: &[u8], p: usize) -> u64
+    requires { ⌜ p + 16 ≤ length (now s) ⌝ }
+    ensures { λ r. ⌜ r ≡ (31 * wordAt (now (s .entry)) p + wordAt (now (s .entry)) (p + 8)) % 2 ^ 64 ⌝ }
+{
+    step(words::word(s, p), words::word(s, p + 8))
+}
+
+// The same check: the 1 of the start with the first word, then two words at a time, each pair times its power of 961.
+fn by_squares(t: &[u64; 32], s: &[u8], at: usize) -> u64
+    requires { ⌜ (now t ≡ squares) × (at + 504 ≤ length (now s)) ⌝ }
     ensures { λ r. ⌜ r ≡ checkFrom 1 (wordsOf 63 (drop at (now (s .entry)))) ⌝ }
 {
-    let mut sum = power(t, 63);
-    let mut p = at;
-    let mut left: usize = 63;
+    let mut sum = product(step(1, words::word(s, at)), square(t, 31));
+    let mut p = at + 8;
+    let mut left: usize = 31;
     while 0 < left {
         left -= 1;
-        sum = times_plus(words::word(s, p), power(t, left), sum);
-        p += 8;
+        sum = times_plus(two(s, p), square(t, left), sum);
+        p += 16;
     }
     sum
 }
 
-// The table is copied once and lent: indexed where it stands, a constant is copied at each read.
+// Two words at a time need every second power: these are copied once and lent. Indexed where it stands by a variable, a constant is copied at
+// each read.
 pub fn by_table(s: &[u8], at: usize) -> u64
     requires { ⌜ at + 504 ≤ length (now s) ⌝ }
     ensures { λ r. ⌜ r ≡ checkFrom 1 (wordsOf 63 (drop at (now (s .entry)))) ⌝ }
 {
-    let t = POWERS;
-    by_powers(&t, s, at)
+    let t = every_second();
+    by_squares(&t, s, at)
 }

@@ -10,13 +10,12 @@ use native.Mathlib.Omega.{arith}
 use native.Mathlib.Decide.{ℕ-discrete}
 use borrow.Author.Needs.{needs}
 use lib.Dec.{T, eqb}
-use lib.Bits.{bitOr, or-add-and, and-le-l, and-le-r}
-use lib.ListN.{length, getD}
+use lib.ListN.{length}
 use Rattle.definitions.specs.Bounded.{_and_, _is_, _below_, _upto_, allBelow}
 use Rattle.definitions.specs.Slots.{word, slot}
 use Rattle.definitions.specs.StateRules.{clear, slotsFit}
 use Rattle.definitions.proofs.Bounded.{tests, choice-iff, and-iff, is-iff, below-iff, upto-iff, all-iff, true-of, of-true, false-of, not-false, same-test}
-use Rattle.definitions.proofs.Loops.{fails, holds}
+use Rattle.definitions.proofs.Loops.{fails, holds, ZeroRun, zeros-start, zeros-turn, zeros-end}
 use Rattle.definitions.proofs.Slots.{slot-length, word-slot}
 use Rattle.box_records.specs.Rules.{clearBetween, countBelow}
 
@@ -26,43 +25,13 @@ pub between-iff : (r : List ℕ) (from to : ℕ) → T (clearBetween r from to) 
 unfolding clearBetween
 between-iff r from to = (λ t. simp tests at t, λ f. simp tests f)
 
--- the words from `from` up to i are joined to w, and they are all before `to`
-pub record ClearRun (r : List ℕ) (from to i w : ℕ) : Type 0 where
-  pub start : from ≤ i
-  pub inside : (j : ℕ) → from ≤ j → j < i → j < to
-  pub each : w ≡ 0 → (j : ℕ) → j < i → from ≤ j → word r j ≡ 0
-  pub whole : ((j : ℕ) → j < i → from ≤ j → word r j ≡ 0) → w ≡ 0
-
--- two words joined are zero where both are
-join-iff : (v w : ℕ) → (bitOr v w ≡ 0) ↔ ((v ≡ 0) × (w ≡ 0))
-join-iff v w =
-    let sum = or-add-and v w in
-    let a = and-le-l v w in
-    let b = and-le-r v w in
-    (λ e. (omega arith, omega arith), λ p. let x = p .0 in let y = p .1 in omega arith)
-
-module _ (r : List ℕ) (from to : ℕ) where
-  pub clear-start : ClearRun r from to from 0
-  clear-start = record { start = le-refl from; inside = λ j a b. absurd (omega arith); each = λ _ j l q. absurd (omega arith); whole = λ _. refl }
-
-  pub clear-turn : (i w : ℕ) → ClearRun r from to i w → i < to → ClearRun r from to (i + 1) (bitOr w (getD r i 0))
-  clear-turn i w p h = record {
-    start = omega (arith, p .start);
-    inside = λ j a b. omega arith;
-    each = λ e j l q. pick (join-iff w (getD r i 0) .0 e) j l q (ℕ-discrete i j);
-    whole = λ f. join-iff w (getD r i 0) .1 (p .whole (λ j l q. f j (omega arith) q), f i (omega arith) (p .start));
-  }
-    where
-      pick : (w ≡ 0) × (getD r i 0 ≡ 0) → (j : ℕ) → j < i + 1 → from ≤ j → Dec (i ≡ j) → word r j ≡ 0
-      pick e j l q (yes z) = ap (word r) (sym z) ∙ e .1
-      pick e j l q (no z) = p .each (e .0) j (omega arith) q
-
-  pub clear-end : (i w : ℕ) → ClearRun r from to i w → to ≤ i → eqb w 0 ≡ clearBetween r from to
-  unfolding _is_
-  clear-end i w p h =
-      same-test (w is 0) (clearBetween r from to)
-      (λ t. between-iff r from to .1 (λ j l q. p .each (is-iff w 0 .0 t) j (omega arith) q))
-      (λ t. is-iff w 0 .1 (p .whole (λ j l q. between-iff r from to .0 t j (p .inside j q l) q)))
+pub clear-end : (r : List ℕ) (from to i w : ℕ) → ZeroRun (word r) from to i w → to ≤ i → eqb w 0 ≡ clearBetween r from to
+unfolding _is_
+clear-end r from to i w p h =
+    let zero = zeros-end (word r) from to i w p h in
+    same-test (w is 0) (clearBetween r from to)
+    (λ t. between-iff r from to .1 (zero .0 (is-iff w 0 .0 t)))
+    (λ t. is-iff w 0 .1 (zero .1 (between-iff r from to .0 t)))
 
 -- a range in runs of 64: the words from `from` up to i are zero
 pub record ClearRuns (r : List ℕ) (from i : ℕ) : Type 0 where
@@ -228,4 +197,4 @@ module _ (p q : ℕ → Bool) where
       pick (yes z) rest = subst (λ (j : ℕ). T (q j)) z (last .0 (subst (λ (j : ℕ). T (p j)) (sym z) t))
       pick (no z) rest = rest fewer (last .1) (omega arith) t
 
-pub ruleset words = (needs, fails, holds, clear-start, clear-turn, clear-end, runs-start, runs-turn, runs-stop, runs-end)
+pub ruleset words = (needs, fails, holds, zeros-start, zeros-turn, clear-end, runs-start, runs-turn, runs-stop, runs-end)

@@ -3,30 +3,27 @@ use mathlib.Core.Path.{_≡_, refl, sym, ap, ap₂, _∙_, subst}
 use mathlib.Core.Bool.{Bool, true, false, not}
 use mathlib.Core.List.{List}
 use mathlib.Core.Option.{Option, none}
-use Prim.Native.Nat.{ℕ, _+_, _-_, _*_, _≤_, _<_, zero-le}
+use Prim.Native.Nat.{ℕ, _+_, _-_, _*_, _≤_, _<_}
 use native.Mathlib.Nat.{le-refl, le-antisymm}
 use native.Mathlib.Numerals.{add-one}
 use native.Mathlib.Omega.{arith}
-use native.Mathlib.Decide.{ℕ-discrete}
 use borrow.Author.Needs.{needs}
-use lib.Dec.{T}
 use lib.ListN.{length}
-use Rattle.definitions.specs.Bounded.{_or_, _is_, _isnt_, _below_, _implies_, anyBelow, someIf}
+use Rattle.definitions.specs.Bounded.{_or_, _is_, _below_, anyBelow, someIf}
 use Rattle.definitions.specs.Sets.{has}
 use Rattle.definitions.specs.Words.{blockOf}
 use Rattle.definitions.specs.Answer.{Refusal, refusal}
 use Rattle.definitions.specs.Model.{Site, Line, Box, siteAt, lineAt, boxAt, siteCount, lineCount, isFree, hasChild, binds}
 use Rattle.definitions.specs.Image.{siteRecord, modelOf}
 use Rattle.definitions.specs.ReadModel.{usedBefore, siteFits, lineFits, childFits, treeFits}
-use Rattle.definitions.proofs.Bounded.{and-iff, implies-iff, any-iff, any-cong, of-true}
-use Rattle.definitions.proofs.Loops.{Passed, passed-start, passed-turn, passed-stop, passed-end, holds}
-use Rattle.definitions.proofs.Faults.{first-iff, passed-iff}
+use Rattle.definitions.proofs.Bounded.{any-cong}
+use Rattle.definitions.proofs.Loops.{Passed, passed-start, passed-turn, passed-stop, passed-end}
 use Rattle.definitions.proofs.Sets.{has-none, or-assoc}
 use Rattle.record_rules.specs.declared.line_sets.LineSet.{LineSet}
 use Rattle.records.specs.NameSets.{SetOf}
 use Rattle.record_rules.specs.Rules.{KindsIn, treeOk, DecidesSite, DecidesLine, DecidesTree}
 use Rattle.records.specs.Places.{LinesAt, SitesAt, lineRecordAt}
-use Rattle.box_runs.specs.Runs.{boxMisfit, lineFit, treeFit, subjectIn, boundIn, childIn, ShowsTrees}
+use Rattle.box_runs.specs.Runs.{boxMisfit, lineFit, treeFit, subjectIn, boundIn, childIn}
 use Rattle.record_rules.specs.LineSets.{lineIs, insertChildren, LineSetOf}
 use Rattle.records.proofs.PlaceLaws.{line-there, lines-of-box, line-at, line-count, site-at}
 
@@ -207,59 +204,7 @@ module _ (image : List ℕ) (b k n i : ℕ) (x : Line) (seen all : LineSet) (t :
 pub tree-end : (image : List ℕ) (b k n i : ℕ) (s : LineSet) → TreeRun image b k n i s → n ≤ i → none ≡ boxMisfit 8 n (treeFit (modelOf image)) b
 tree-end image b k n i s p l = records-end 8 n (treeFit (modelOf image)) b i (p .records-fit) l
 
--- ---- 8 by the lines before alone
-
--- a test passed with fewer children passes with more
-tree-more : (l : Line) (i n : ℕ) (p q r : ℕ → Bool) → (T (q i) → T (r i)) → T (treeOk l i n p q) → T (treeOk l i n p r)
-unfolding treeOk
-tree-more l i n p q r f t =
-    let s = and-iff _ (i isnt 0 implies q i) .0 t in
-    and-iff _ (i isnt 0 implies r i) .1 (s .0, implies-iff (i isnt 0) (r i) .1 (λ u. f (implies-iff (i isnt 0) (q i) .0 (s .1) u)))
-
--- the lines below i fit, whatever box they are of
-pub record FitSoFar (image : List ℕ) (k n i : ℕ) (seen : LineSet) : Type 0 where
-  pub upto : i ≤ n
-  pub children : LineSetOf seen (childIn image k i)
-  pub fits : (b : ℕ) → LinesAt image b k n → (j : ℕ) → j < i → T (treeFits (boxAt (modelOf image) b) j)
-
-module _ (image : List ℕ) (k n : ℕ) where
-  pub fit-start : FitSoFar image k n 0 (record { low = 0; high = 0 })
-  fit-start = record { upto = zero-le; children = child-start image k; fits = λ b h j l. absurd (omega arith) }
-
-  pub fit-turn : (i : ℕ) (x : Line) (seen r : LineSet) (t : Bool) → FitSoFar image k n i seen → i < n → x ≡ lineRecordAt image k i → DecidesTree x i n seen seen t → not t ≡ false
-      → LineSetOf r (insertChildren (seen .low) (seen .high) x) → FitSoFar image k n (i + 1) r
-  fit-turn i x seen r t p l q decided z f = record {
-    upto = omega arith;
-    children = child-turn image k i seen r x (p .children) q f;
-    fits = λ b h j g. pick b h j g (ℕ-discrete i j);
-  }
-    where
-      pick : (b : ℕ) → LinesAt image b k n → (j : ℕ) → j < i + 1 → Dec (i ≡ j) → T (treeFits (boxAt (modelOf image) b) j)
-      pick b h j g (no e) = p .fits b h j (omega arith)
-      pick b h j g (yes e) =
-          let y = boxAt (modelOf image) b in
-          let before : ℕ → Bool = λ c. anyBelow i (λ j. hasChild (lineAt y j) c) in
-          let named : ℕ → Bool = λ c. anyBelow n (λ j. hasChild (lineAt y j) c) in
-          let children = children-at image b k n i seen h (omega arith) (p .children) in
-          let more : T (before i) → T (named i) = λ u. let s = any-iff i (λ j. hasChild (lineAt y j) i) .0 u in
-          any-iff n (λ j. hasChild (lineAt y j) i) .1 (s .0, (let d = s .1 in omega arith), s .2) in
-          let passed : T (treeOk x i n before before) = of-true (sym (decided .decides before before (h .there .few) l children children) ∙ holds t z) in
-          subst (λ (j : ℕ). T (treeFits y j)) e
-          (subst T (tree-fits y x i n (line-count image b k n h) (q ∙ line-at image b k n h i l)) (tree-more x i n before before named more passed))
-
-  pub fit-stop : ShowsTrees image k n false
-  fit-stop = record { shows = λ t. absurd t }
-
-  pub fit-end : (i : ℕ) (seen : LineSet) → FitSoFar image k n i seen → n ≤ i → ShowsTrees image k n true
-  fit-end i seen p l = record { shows = λ t b h. record { fits = λ j g. p .fits b h j (omega arith) } }
-
-  pub fit-none : (b : ℕ) (r : Bool) → ShowsTrees image k n r → r ≡ true → LinesAt image b k n → none ≡ boxMisfit 8 n (treeFit (modelOf image)) b
-  unfolding boxMisfit
-  fit-none b r decided e h =
-      let fits = decided .shows (of-true e) b h .fits in
-      sym (first-iff n (misfit 8 (treeFit (modelOf image)) b) .1 (λ i l. passed-iff (treeFit (modelOf image) b i) (refusal 8 b i) .1 (fits i l)))
-
 pub sites-room : (image : List ℕ) (b k n : ℕ) → SitesAt image b k n → 512 * (k + 1) ≤ length image
 sites-room image b k n h = h .there
 
-pub ruleset runs = (needs, line-there, lines-of-box, sites-room, subject-start, subject-turn, subject-end, bound-start, bound-turn, bound-end, child-start, child-turn, child-end, records-start, records-end, site-start, site-turn, site-stop, site-end, line-turn, line-stop, tree-start, tree-turn, tree-stop, tree-end, fit-start, fit-turn, fit-stop, fit-end, fit-none)
+pub ruleset runs = (needs, line-there, lines-of-box, sites-room, subject-start, subject-turn, subject-end, bound-start, bound-turn, bound-end, child-start, child-turn, child-end, records-start, records-end, site-start, site-turn, site-stop, site-end, line-turn, line-stop, tree-start, tree-turn, tree-stop, tree-end)

@@ -9,7 +9,7 @@ use Rattle.definitions.specs.Answer.{Refusal, refusal}
 use Rattle.definitions.specs.Model.{Model, lineAt, boxAt, hasChild, binds}
 use Rattle.definitions.specs.Image.{siteRecord, modelOf}
 use Rattle.definitions.specs.ReadModel.{lineFits, treeFits}
-use Rattle.records.specs.Places.{LinesAt, lineRecordAt}
+use Rattle.records.specs.Places.{lineRecordAt}
 
 -- the first of n records of box b at which a test fails
 unfoldable pub boxMisfit : ℕ → ℕ → (ℕ → ℕ → Bool) → ℕ → Option Refusal
@@ -35,7 +35,3 @@ boundIn image k n m = anyBelow n (λ i. binds (lineRecordAt image k i) m)
 
 unfoldable pub childIn : List ℕ → ℕ → ℕ → ℕ → Bool
 childIn image k n c = anyBelow n (λ i. hasChild (lineRecordAt image k i) c)
-
--- where the answer is yes, each of n lines fits its tree, whatever box they are of
-pub record ShowsTrees (image : List ℕ) (k n : ℕ) (r : Bool) : Type 0 where
-  pub shows : T r → (b : ℕ) → LinesAt image b k n → TreesFit image b n

@@ -10,7 +10,7 @@ ghost use Rattle.refusals.specs.Answers.{answerIn};
 ghost use Rattle.records.specs.NameSets.{SetOf};
 ghost use Rattle.record_rules.specs.Rules.{KindsIn};
 ghost use Rattle.records.specs.Places.{LinesThere, LinesAt, SitesAt};
-ghost use Rattle.box_runs.specs.Runs.{boxMisfit, lineFit, treeFit, subjectIn, boundIn, childIn, ShowsTrees};
+ghost use Rattle.box_runs.specs.Runs.{boxMisfit, lineFit, treeFit, subjectIn, boundIn, childIn};
 ghost use Rattle.record_rules.specs.LineSets.{LineSetOf};
 use record_rules::line_sets::LineSet;
 use records::names::binder;
@@ -109,26 +109,8 @@ pub fn box_lines(
     Answer::NoRefusal
 }
 
-// Each line fits its tree: one run, since the children of the lines before a line are enough to show it. It names no line that does not.
-fn tree_fits_all(image: &[u8], k: usize, n: usize) -> bool
-    requires { ⌜ LinesThere (now image) k n ⌝ }
-    ensures { λ r. ⌜ ShowsTrees (now (image .entry)) k n r ⌝ }
-{
-    let mut seen = LineSet { low: 0, high: 0 };
-    let mut i = 0;
-    while i < n {
-        let l = records::inside::line(image, k, i);
-        if !record_rules::tree_fits(l, i, n, seen, seen) {
-            return false;
-        }
-        seen = record_rules::line_sets::with_children(seen, l);
-        i += 1;
-    }
-    true
-}
-
-// The first line of box b that does not fit its tree.
-fn tree_misfit(image: &[u8], b: usize, k: usize, n: usize) -> Answer
+// 8 in box b.
+pub fn box_tree(image: &[u8], b: usize, k: usize, n: usize) -> Answer
     requires { ⌜ LinesAt (now image) b k n ⌝ }
     ensures { λ r. ⌜ answerIn r ≡ boxMisfit 8 n (treeFit (modelOf (now (image .entry)))) b ⌝ }
 {
@@ -144,15 +126,4 @@ fn tree_misfit(image: &[u8], b: usize, k: usize, n: usize) -> Answer
         i += 1;
     }
     Answer::NoRefusal
-}
-
-// 8 in box b: two more runs only where a line does not fit.
-pub fn box_tree(image: &[u8], b: usize, k: usize, n: usize) -> Answer
-    requires { ⌜ LinesAt (now image) b k n ⌝ }
-    ensures { λ r. ⌜ answerIn r ≡ boxMisfit 8 n (treeFit (modelOf (now (image .entry)))) b ⌝ }
-{
-    if tree_fits_all(image, k, n) {
-        return Answer::NoRefusal;
-    }
-    tree_misfit(image, b, k, n)
 }

@@ -9,19 +9,13 @@ use borrow.Author.Needs.{needs}
 use lib.ListN.{length, take, drop}
 use lib.Seq.{take-length}
 use Rattle.definitions.specs.Bounded.{_upto_}
-use Rattle.definitions.specs.Answer as paper
 use Rattle.definitions.specs.Clauses as clauses
-use Rattle.definitions.specs.ShutOff as shut
+use Rattle.definitions.specs.ShutOff.{refusedIn, refusedBlock}
 use Rattle.definitions.proofs.Bounded.{true-of, false-of, upto-iff}
 use Rattle.blocks.specs.declared.Number.{Number}
 use Rattle.blocks.specs.declared.Number.the-variants.{NoBlock, Is}
 use Rattle.blocks.specs.Answers.{numberIn}
-use Rattle.refusals.specs.declared.Answer.{Answer}
-use Rattle.refusals.specs.Answers.{answerIn}
-use Rattle.analysis.specs.declared.Verdict.{Verdict}
-use Rattle.analysis.specs.declared.Reply.{Reply}
-use Rattle.analysis.specs.Answers.{verdictIn, replyIn}
-use Rattle.packing.specs.Packed.{pack, packVerdict, packReply, packCall, packPart}
+use Rattle.packing.specs.Packed.{pack, packPart}
 use Rattle.capi.specs.Copied.{orZero, copied, packCopied}
 
 pub number-is : (o : Option ℕ) (x : Number) (n : ℕ) → numberIn x ≡ o → x ≡ Is n → n ≡ orZero o
@@ -30,17 +24,11 @@ number-is o x n e q = ap (λ (y : Number). orZero (numberIn y)) (sym q) ∙ ap o
 pub number-none : (o : Option ℕ) (x : Number) → numberIn x ≡ o → x ≡ NoBlock → 0 ≡ orZero o
 number-none o x e q = ap (λ (y : Number). orZero (numberIn y)) (sym q) ∙ ap orZero e
 
-pub checked : (p : clauses.Verdict) (v : Verdict) (n : ℕ) → verdictIn v ≡ p → n ≡ packVerdict (verdictIn v) → n ≡ packVerdict p
-checked p v n e q = q ∙ ap packVerdict e
-
-pub asked : (p : shut.Reply) (a : Reply) (n : ℕ) → replyIn a ≡ p → n ≡ packReply (replyIn a) → n ≡ packReply p
-asked p a n e q = q ∙ ap packReply e
-
-pub called : (o : Option paper.Refusal) (a : Answer) (n : ℕ) → answerIn a ≡ o → n ≡ packCall (answerIn a) → n ≡ packCall o
-called o a n e q = q ∙ ap packCall e
-
-pub placed : (model estimate : List ℕ) (p : clauses.Verdict) (v : Verdict) (n : ℕ) → verdictIn v ≡ p → n ≡ packPart model estimate (verdictIn v) → n ≡ packPart model estimate p
-placed model estimate p v n e q = q ∙ ap (packPart model estimate) e
+-- where the refused block stands
+pub part-placed : (model estimate p : List ℕ) (v : clauses.Verdict) (n : ℕ) → v ≡ clauses.readBoth model estimate → p ≡ refusedIn model estimate v
+    → n ≡ packPart v (length p) → n ≡ packPart (clauses.readBoth model estimate) (length (refusedBlock model estimate))
+unfolding refusedBlock
+part-placed model estimate p v n e d q = cc
 
 -- a part that fits, and one that does not
 answer-by : List ℕ → Bool → ℕ
@@ -65,4 +53,4 @@ long-both p part buffer e h =
     false-of (length p upto length buffer) (λ u. let q = upto-iff (length p) (length buffer) .0 u in omega (arith, ap length e)) in
     (sym (ap (answer-by p) t), sym (ap (bytes-by p buffer) t))
 
-pub ruleset packs = (needs, number-is, number-none, checked, asked, called, placed)
+pub ruleset packs = (needs, number-is, number-none, part-placed)

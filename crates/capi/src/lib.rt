@@ -1,5 +1,6 @@
 // The calls that C and Rust link: numbers and slices in, one number out.
 ghost use mathlib.Core.Path.{_≡_};
+ghost use lib.ListN.{length};
 ghost use Rattle.definitions.specs.Check.{checkOf};
 ghost use Rattle.definitions.specs.ReadModel.{readModel};
 ghost use Rattle.definitions.specs.Clauses as clauses;
@@ -105,10 +106,12 @@ pub extern "C" fn bm_run(model: &[u8], state: &mut [u32], moves: &[Move], answer
 
 // Where the refused block stands: in which image, at which block, and how many bytes.
 #[no_mangle]
-pub extern "C" fn bm_refused_block(model: &[u8], estimate: &[u8]) -> u64
-    ensures { λ r. ⌜ r ≡ packPart (now (model .entry)) (now (estimate .entry)) (clauses.readBoth (now (model .entry)) (now (estimate .entry))) ⌝ }
+pub extern "C" fn bm_refused_block<'a>(model: &'a [u8], estimate: &'a [u8]) -> u64
+    ensures { λ r. ⌜ r ≡ packPart (clauses.readBoth (now (model .entry)) (now (estimate .entry))) (length (refusedBlock (now (model .entry)) (now (estimate .entry)))) ⌝ }
 {
-    packing::of_part(model, estimate, analysis::read_estimate(model, estimate))
+    let v = analysis::read_estimate(model, estimate);
+    let part = analysis::parts::part(model, estimate, v);
+    packing::of_part(v, part.len())
 }
 
 // The refused block, copied to the front of a lent buffer.

@@ -1,18 +1,16 @@
--- The clauses of several tests, each on what called functions answered; and those that the code knows by a flag or a table. Assumes nothing.
+-- The clauses of several tests, each on what called functions answered; and clause 1, which the code knows by a flag. Assumes nothing.
 use mathlib.Core.Path.{_≡_, refl, sym, ap, ap₂, _∙_}
 use mathlib.Core.Bool.{Bool, true, false, not}
-use mathlib.Core.List.{List}
 use Prim.Native.Nat.{ℕ}
 use borrow.Author.Needs.{needs}
-use lib.ListN.{getD}
 use Rattle.definitions.specs.Bounded.{_and_, _implies_, _is_, _isnt_}
 use Rattle.definitions.specs.Sets.{has, forEach, within}
-use Rattle.definitions.specs.Model.{Site, Line, kindOfName}
+use Rattle.definitions.specs.Model.{Site, Line}
 use Rattle.definitions.specs.Estimate.{Estimate}
-use Rattle.definitions.specs.Clauses.{clause1, clause2, clause4, clause5, clause7}
+use Rattle.definitions.specs.Clauses.{clause1, clause2, clause7}
 use Rattle.definitions.proofs.Bounded.{is-iff, isnt-iff, true-of, false-of}
 use Rattle.definitions.proofs.Sets.{and-true}
-use Rattle.clauses.specs.Known.{Clause1Of, Decides, Clause6Of}
+use Rattle.clauses.specs.Known.{Clause1Of}
 use Rattle.clauses.proofs.Members.{walks}
 
 not-not : (b : Bool) → not (not b) ≡ b
@@ -64,20 +62,6 @@ module _ (e : Estimate) (b : ℕ) (s : Site) (x : Bool) (ex : x ≡ within (s .t
     two-hidden z q =
         q ∙ sym (asked false true (false-of (s .flag is 0) (λ u. z (is-iff (s .flag) 0 .0 u))) (true-of (s .flag isnt 0) (isnt-iff (s .flag) 0 .1 z)))
 
--- ---- clauses 4, 5 and 6, where s is rho(p) and q is rho(q)
-
-module _ (e : Estimate) (l : Line) (s q : ℕ) (r : Bool) (es : s ≡ e .rho (l .name1)) (eq : q ≡ e .rho (l .name2)) where
-  pub four-is : (b : ℕ) → r ≡ forEach s (λ a. within q (e .kap b a)) → r ≡ clause4 e b l
-  unfolding clause4
-  four-is b k = k ∙ ap₂ (λ (x y : ℕ). forEach x (λ a. within y (e .kap b a))) es eq
-
-  pub five-is : (b : ℕ) → r ≡ forEach s (λ a. within (e .kap b a) q) → r ≡ clause5 e b l
-  unfolding clause5
-  five-is b k = k ∙ ap₂ (λ (x y : ℕ). forEach x (λ a. within (e .kap b a) y)) es eq
-
-  pub six-is : (t : List ℕ) → r ≡ forEach s (λ a. within (getD t a 0) q) → Clause6Of e t l r
-  six-is t k = record { same = λ boxes b d. k ∙ ap₂ (λ (x y : ℕ). forEach x (λ a. within (getD t a 0) y)) es eq ∙ d .same }
-
 -- ---- clause 7
 
 module _ (e : Estimate) (b : ℕ) (l : Line) (s : ℕ) (x : Bool) (es : s ≡ e .rho (l .name1)) (ex : x ≡ has s (l .name1)) where
@@ -106,7 +90,5 @@ module _ (e : Estimate) (b : ℕ) (l : Line) (s : ℕ) (x : Bool) (es : s ≡ e 
         ∙ sym (ap₂ (λ (u v : Bool). u and v and type-of) (own false t) (shown false i))
 
 pub ruleset clauses = (walks, one-free, one-other, two-type, two-shown, two-hidden)
-
-pub ruleset walked = (walks, four-is, five-is, six-is)
 
 pub ruleset sevens = (needs, seven-own, seven-shown, seven-type)

@@ -1,13 +1,13 @@
 // The clauses, each as a test at one name, site or line, over an estimate that has been read.
 ghost use mathlib.Core.Path.{_≡_};
 ghost use Prim.Native.Nat.{_+_, _*_, _<_, _≤_};
-ghost use lib.ListN.{length, getD};
+ghost use lib.ListN.{length};
 ghost use Rattle.definitions.specs.Sets as names;
 ghost use Rattle.definitions.specs.Estimate.{estimateOf};
 ghost use Rattle.definitions.specs.Clauses as clauses;
 ghost use Rattle.records.specs.Records.{siteIn, lineIn};
 ghost use Rattle.sets.specs.Names.{NamesOnly};
-ghost use Rattle.clauses.specs.Known.{BoxOfNames, LineOfNames, Clause1Of, Clause6Of};
+ghost use Rattle.clauses.specs.Known.{BoxOfNames, LineOfNames, Clause1Of};
 use records::Line;
 use records::Site;
 use sets::NameNo;
@@ -47,66 +47,24 @@ pub fn clause3(estimate: &[u8], l: Line) -> bool
     sets::contains(estimate::rho(estimate, l.name1), l.name1)
 }
 
-// 4. output on p of q: for each a in rho(p), rho(q) within kap(b, a).
-pub fn clause4(estimate: &[u8], b: usize, l: Line) -> bool
-    requires { ⌜ BoxOfNames (now estimate) b × LineOfNames (lineIn l) ⌝ }
-    ensures { λ r. ⌜ r ≡ clauses.clause4 (estimateOf (now (estimate .entry))) b (lineIn l) ⌝ }
+// 4. output on p of q, by the names that every kap(b, a) has, a in rho(p): rho(q) is within them.
+pub fn sends_within(estimate: &[u8], most: u64, l: Line) -> bool
+    requires { ⌜ (512 ≤ length (now estimate)) × LineOfNames (lineIn l) ⌝ }
+    ensures { λ r. ⌜ r ≡ names.within (estimateOf (now (estimate .entry)) .rho (l .name2 .0)) most ⌝ }
 {
-    let q = estimate::rho(estimate, l.name2);
-    let mut left = estimate::rho(estimate, l.name1);
-    while left != 0 {
-        let a = sets::lowest(left);
-        if !sets::is_subset(q, estimate::kap(estimate, b, a)) {
-            return false;
-        }
-        left = sets::without_lowest(left);
-    }
-    true
+    sets::is_subset(estimate::rho(estimate, l.name2), most)
 }
 
-// 5. input on p into q: for each a in rho(p), kap(b, a) within rho(q).
-pub fn clause5(estimate: &[u8], b: usize, l: Line) -> bool
-    requires { ⌜ BoxOfNames (now estimate) b × LineOfNames (lineIn l) ⌝ }
-    ensures { λ r. ⌜ r ≡ clauses.clause5 (estimateOf (now (estimate .entry))) b (lineIn l) ⌝ }
+// 5 and 6. input on p into q, by all that the clause asks of rho(q) there: it is within rho(q).
+pub fn takes(estimate: &[u8], asks: u64, l: Line) -> bool
+    requires { ⌜ (512 ≤ length (now estimate)) × LineOfNames (lineIn l) ⌝ }
+    ensures { λ r. ⌜ r ≡ names.within asks (estimateOf (now (estimate .entry)) .rho (l .name2 .0)) ⌝ }
 {
-    let q = estimate::rho(estimate, l.name2);
-    let mut left = estimate::rho(estimate, l.name1);
-    while left != 0 {
-        let a = sets::lowest(left);
-        if !sets::is_subset(estimate::kap(estimate, b, a), q) {
-            return false;
-        }
-        left = sets::without_lowest(left);
-    }
-    true
-}
-
-fn entry(table: &[u64; 64], a: NameNo) -> u64
-    requires { ⌜ (length (now table) ≡ 64) × (a .0 < 64) ⌝ }
-    ensures { λ r. ⌜ r ≡ getD (now (table .entry)) (a .0) 0 ⌝ }
-{
-    table[a.0 as usize]
-}
-
-// 6. same line, by a table of what the clause asks at each name of the box: for each a in rho(p), its entry within rho(q).
-pub fn clause6(estimate: &[u8], table: &[u64; 64], l: Line) -> bool
-    requires { ⌜ (512 ≤ length (now estimate)) × LineOfNames (lineIn l) × (length (now table) ≡ 64) ⌝ }
-    ensures { λ r. ⌜ Clause6Of (estimateOf (now (estimate .entry))) (now (table .entry)) (lineIn l) r ⌝ }
-{
-    let q = estimate::rho(estimate, l.name2);
-    let mut left = estimate::rho(estimate, l.name1);
-    while left != 0 {
-        let a = sets::lowest(left);
-        if !sets::is_subset(entry(table, a), q) {
-            return false;
-        }
-        left = sets::without_lowest(left);
-    }
-    true
+    sets::is_subset(asks, estimate::rho(estimate, l.name2))
 }
 
 // rho(g) within x for each g in s.
-fn types_within(estimate: &[u8], s: u64, x: u64) -> bool
+pub fn types_within(estimate: &[u8], s: u64, x: u64) -> bool
     requires { ⌜ (512 ≤ length (now estimate)) × NamesOnly s ⌝ }
     ensures { λ r. ⌜ r ≡ names.forEach s (λ g. names.within (estimateOf (now (estimate .entry)) .rho g) x) ⌝ }
 {

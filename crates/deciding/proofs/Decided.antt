@@ -1,10 +1,10 @@
 -- Laws of the numbers with which moves are refused: each test by what the code finds. Assumes nothing.
-use mathlib.Core.Path.{_≡_, refl, ap, subst, sym, _∙_}
+use mathlib.Core.Path.{_≡_, refl, ap, sym, _∙_}
 use mathlib.Core.Logic.{_≢_}
-use mathlib.Core.Bool.{Bool, true, false, not}
+use mathlib.Core.Bool.{Bool, true, false}
 use mathlib.Core.List.{List, [], _∷_}
 use mathlib.Core.Option.{Option, none, some}
-use Prim.Native.Nat.{ℕ, zero, suc, _+_, _≤_, _<_}
+use Prim.Native.Nat.{ℕ, _+_, _≤_, _<_}
 use native.Mathlib.Omega.{arith}
 use native.Mathlib.Decide.{ℕ-discrete}
 use lib.Dec.{T, ltb}
@@ -14,14 +14,14 @@ use Rattle.definitions.specs.Model as model
 use Rattle.definitions.specs.Record.{held, stampLimit, stamp, threads, sites, thread, setStamp, putThread, takeThread, pushSite}
 use Rattle.definitions.specs.Start.{typeWords}
 use Rattle.definitions.specs.Moves as moves
-use Rattle.definitions.specs.Moves.{Outcome, refused, made, need, onMade, siteWith, found, at, threadLine, onward, onwardWith, value1, value2, atLine, dropMove, spreadMove, newMove, copyMove, exposeMove, turnMove, intraMove, kindOfMove, insideMove}
+use Rattle.definitions.specs.Moves.{Outcome, refused, made, need, onMade, siteWith, found, at, threadLine, onward, onwardWith, value1, value2, atLine, dropMove, spreadMove, newMove, copyMove, exposeMove, turnMove, intraMove}
 use Rattle.definitions.specs.Calls.{outcomeNumber}
 use Rattle.definitions.proofs.Bounded.{and-iff, is-iff, isnt-iff, below-iff, true-of, of-true, false-of, not-false}
-use Rattle.definitions.proofs.Made.{SiteFound, site-found}
+use Rattle.definitions.proofs.Made.{site-found}
 use Rattle.records.specs.declared.Line.{Line}
 use Rattle.records.specs.Records.{lineIn}
 use Rattle.lookups.specs.Found.{placeOf}
-use Rattle.deciding.specs.Numbers.{unless, orNext, passed, lineNumber, turnNumber, channelNumber, insideNumberAs, insideNumber}
+use Rattle.deciding.specs.Numbers.{unless, orNext, passed, lineNumber, turnNumber, channelNumber}
 
 -- ---- a test in front of others
 
@@ -335,62 +335,3 @@ module _ (kinds : List ℕ) (x : Box) (r : List ℕ) (t u : ℕ) where
       intra-number v z q =
           q ∙ need-same lines 14 (need one 15 passed) _ (need-same one 15 passed (made _) refl)
           ∙ sym (need-yes (t below threads r and u below threads r) 12 (need (t isnt u) 13 lined) both ∙ need-yes (t isnt u) 13 lined (isnt-iff t u .1 z))
-
--- ---- by kind
-
-module _ (kinds : List ℕ) (x : Box) (r : List ℕ) (kind t u v : ℕ) where
-  like : (k : ℕ) → kind ≡ k → insideNumber kinds x r kind t u ≡ insideNumber kinds x r k t u
-  like k e = ap (λ (n : ℕ). insideNumber kinds x r n t u) e
-
-  pub kind-1 : kind ≡ 1 → v ≡ outcomeNumber (dropMove kinds x r t) → v ≡ insideNumber kinds x r kind t u
-  unfolding insideNumber kindOfMove insideMove
-  kind-1 e q = q ∙ sym (like 1 e)
-
-  pub kind-2 : kind ≡ 2 → v ≡ outcomeNumber (spreadMove kinds x r t) → v ≡ insideNumber kinds x r kind t u
-  unfolding insideNumber kindOfMove insideMove
-  kind-2 e q = q ∙ sym (like 2 e)
-
-  pub kind-3 : kind ≡ 3 → v ≡ outcomeNumber (newMove kinds x r t) → v ≡ insideNumber kinds x r kind t u
-  unfolding insideNumber kindOfMove insideMove
-  kind-3 e q = q ∙ sym (like 3 e)
-
-  pub kind-4 : kind ≡ 4 → v ≡ outcomeNumber (copyMove kinds x r t) → v ≡ insideNumber kinds x r kind t u
-  unfolding insideNumber kindOfMove insideMove
-  kind-4 e q = q ∙ sym (like 4 e)
-
-  pub kind-5 : kind ≡ 5 → v ≡ outcomeNumber (exposeMove kinds x r t) → v ≡ insideNumber kinds x r kind t u
-  unfolding insideNumber kindOfMove insideMove
-  kind-5 e q = q ∙ sym (like 5 e)
-
-  pub kind-6 : kind ≡ 6 → v ≡ turnNumber kinds x r 7 0 t → v ≡ insideNumber kinds x r kind t u
-  unfolding insideNumber kindOfMove insideMove
-  kind-6 e q = turn-number kinds x r t 7 0 1 v q ∙ sym (like 6 e)
-
-  pub kind-7 : kind ≡ 7 → v ≡ turnNumber kinds x r 8 1 t → v ≡ insideNumber kinds x r kind t u
-  unfolding insideNumber kindOfMove insideMove
-  kind-7 e q = turn-number kinds x r t 8 1 0 v q ∙ sym (like 7 e)
-
-  pub kind-8 : kind ≡ 8 → v ≡ outcomeNumber (intraMove kinds x r t u) → v ≡ insideNumber kinds x r kind t u
-  unfolding insideNumber kindOfMove insideMove
-  kind-8 e q = q ∙ sym (like 8 e)
-
--- a kind that is none of those
-none-of : (kinds : List ℕ) (x : Box) (r : List ℕ) (t u k : ℕ) → k ≢ 1 → k ≢ 2 → k ≢ 3 → k ≢ 4 → k ≢ 5 → k ≢ 6 → k ≢ 7 → k ≢ 8
-    → 12 ≡ insideNumberAs kinds x r (kindOfMove k) t u
-unfolding kindOfMove
-none-of kinds x r t u zero n1 n2 n3 n4 n5 n6 n7 n8 = refl
-none-of kinds x r t u (suc zero) n1 n2 n3 n4 n5 n6 n7 n8 = absurd (n1 refl)
-none-of kinds x r t u (suc (suc zero)) n1 n2 n3 n4 n5 n6 n7 n8 = absurd (n2 refl)
-none-of kinds x r t u (suc (suc (suc zero))) n1 n2 n3 n4 n5 n6 n7 n8 = absurd (n3 refl)
-none-of kinds x r t u (suc (suc (suc (suc zero)))) n1 n2 n3 n4 n5 n6 n7 n8 = absurd (n4 refl)
-none-of kinds x r t u (suc (suc (suc (suc (suc zero))))) n1 n2 n3 n4 n5 n6 n7 n8 = absurd (n5 refl)
-none-of kinds x r t u (suc (suc (suc (suc (suc (suc zero)))))) n1 n2 n3 n4 n5 n6 n7 n8 = absurd (n6 refl)
-none-of kinds x r t u (suc (suc (suc (suc (suc (suc (suc zero))))))) n1 n2 n3 n4 n5 n6 n7 n8 = absurd (n7 refl)
-none-of kinds x r t u (suc (suc (suc (suc (suc (suc (suc (suc zero)))))))) n1 n2 n3 n4 n5 n6 n7 n8 = absurd (n8 refl)
-none-of kinds x r t u (suc (suc (suc (suc (suc (suc (suc (suc (suc zero))))))))) n1 n2 n3 n4 n5 n6 n7 n8 = refl
-none-of kinds x r t u (suc (suc (suc (suc (suc (suc (suc (suc (suc (suc n)))))))))) n1 n2 n3 n4 n5 n6 n7 n8 = refl
-
-pub kind-none : (kinds : List ℕ) (x : Box) (r : List ℕ) (kind t u : ℕ) → kind ≢ 1 → kind ≢ 2 → kind ≢ 3 → kind ≢ 4 → kind ≢ 5 → kind ≢ 6 → kind ≢ 7
-    → kind ≢ 8 → 12 ≡ insideNumber kinds x r kind t u
-unfolding insideNumber
-kind-none kinds x r kind t u n1 n2 n3 n4 n5 n6 n7 n8 = none-of kinds x r t u kind n1 n2 n3 n4 n5 n6 n7 n8

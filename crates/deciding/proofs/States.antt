@@ -1,27 +1,26 @@
 -- A move in a state: its number is that of the move in its box, or between its boxes. Assumes nothing.
-use mathlib.Core.Path.{_≡_, refl, ap, subst, sym, _∙_}
+use mathlib.Core.Path.{_≡_, refl, ap, sym, _∙_}
 use mathlib.Core.Logic.{_≢_}
 use mathlib.Core.Bool.{Bool, true, false}
 use mathlib.Core.List.{List}
-use mathlib.Core.Option.{none}
 use Prim.Native.Nat.{ℕ, zero, suc, _+_, _*_, _≤_, _<_}
 use native.Mathlib.Omega.{arith}
 use lib.Dec.{T}
 use lib.ListN.{length}
 use Rattle.definitions.specs.Bounded.{_and_, _isnt_, _below_}
 use Rattle.definitions.specs.Words.{blockOf, dataWord}
-use Rattle.definitions.specs.Model.{Model, boxAt, boxCount}
+use Rattle.definitions.specs.Model.{boxAt, boxCount}
 use Rattle.definitions.specs.Image.{boxesOf, modelOf}
-use Rattle.definitions.specs.ReadModel.{readModel}
 use Rattle.definitions.specs.Record.{threads, recordOf, putRecord, lastStamps}
-use Rattle.definitions.specs.Moves.{Kind, inside, inter, unknown, kindOfMove, Move, Outcome, Ends, need, onMade, insideMove, interMove, insideAct, interAct, actAs, act}
+use Rattle.definitions.specs.Moves.{Kind, inside, inter, unknown, kindOfMove, Outcome, Ends, need, onMade, insideMove, interMove, insideAct, interAct, actAs, act}
 use Rattle.definitions.specs.Calls.{outcomeNumber}
 use Rattle.definitions.proofs.Bounded.{and-iff, below-iff}
 use Rattle.definitions.proofs.Image.{model-count}
 use Rattle.definitions.proofs.StateRules.{StateFits, state-iff, record-iff}
 use Rattle.lookups.specs.Ready.{BoxReady, Ready}
-use Rattle.lookups.proofs.Ready.{read-head, read-boxes}
-use Rattle.deciding.specs.Numbers.{insideNumberAs, insideNumber, interNumber, moveOf}
+use Rattle.lookups.specs.Inside.{insideAs, insideOutcome}
+use Rattle.lookups.proofs.Ready.{read-boxes}
+use Rattle.deciding.specs.Numbers.{interNumber, moveOf}
 use Rattle.deciding.proofs.Decided.{need-yes, need-no, need-same, on-made-number}
 
 -- ---- a state that obeys the rules: each box's record is in order
@@ -100,13 +99,13 @@ module _ (image st : List ℕ) (kind b t c u n : ℕ) (e : n ≡ boxesOf image) 
       go unknown = refl
 
   pub act-inside : (x : ℕ) (r : List ℕ) → b < n → kind ≢ 9 → r ≡ recordOf st b
-      → x ≡ insideNumber (modelOf image .kinds) (boxAt (modelOf image) b) r kind t u
+      → x ≡ outcomeNumber (insideOutcome (modelOf image .kinds) (boxAt (modelOf image) b) r kind t u)
       → x ≡ outcomeNumber (act (modelOf image) st (moveOf kind b t c u))
-  unfolding act actAs insideAct interAct insideNumber
+  unfolding act actAs insideAct interAct insideOutcome
   act-inside x r h nine d q =
-      go (kindOfMove kind) (not-inter kind nine) (q ∙ ap (λ (s : List ℕ). insideNumberAs (modelOf image .kinds) (boxAt (modelOf image) b) s (kindOfMove kind) t u) d)
+      go (kindOfMove kind) (not-inter kind nine) (q ∙ ap (λ (s : List ℕ). outcomeNumber (insideAs (modelOf image .kinds) (boxAt (modelOf image) b) s (kindOfMove kind) t u)) d)
     where
-      go : (k : Kind) → (IsInter k → ⊥) → x ≡ insideNumberAs (modelOf image .kinds) (boxAt (modelOf image) b) (recordOf st b) k t u
+      go : (k : Kind) → (IsInter k → ⊥) → x ≡ outcomeNumber (insideAs (modelOf image .kinds) (boxAt (modelOf image) b) (recordOf st b) k t u)
           → x ≡ outcomeNumber (actAs (modelOf image) st k (moveOf kind b t c u))
       go (inside i) f z = z ∙ sym (need-yes (b below boxCount (modelOf image)) 12 _ (inside-model b h) ∙ on-made-number (putRecord st b) (insideMove (modelOf image .kinds) (boxAt (modelOf image) b) (recordOf st b) i t u))
       go inter f z = absurd (f tt)

@@ -11,7 +11,7 @@ use Rattle.definitions.specs.Model.{Box, kindOfName, output, input}
 use Rattle.definitions.specs.Image.{nameCount, modelOf}
 use Rattle.definitions.specs.ReadModel.{readModel}
 use Rattle.definitions.specs.Record.{recordLength, heldNumber, threads, sites, site, thread}
-use Rattle.definitions.specs.Moves.{Kind, inside, inter, unknown, kindOfMove, Move, Outcome, made, need, siteWith, found, at, typesShare, valueIn, threadLine, value1, atLine, insideMove, interMove}
+use Rattle.definitions.specs.Moves.{Move, Outcome, made, need, siteWith, found, at, typesShare, valueIn, threadLine, value1, atLine, interMove}
 use Rattle.definitions.specs.Calls.{outcomeNumber}
 
 -- 0 where a test passes, and else a number
@@ -40,15 +40,6 @@ unfoldable pub channelNumber : List ℕ → Box → List ℕ → ℕ → ℕ →
 channelNumber kinds x r t u =
     outcomeNumber (need (threadLine kinds x r t .op is input and threadLine kinds x r u .op is output) 14
     (need (value1 kinds x r t is value1 kinds x r u) 15 passed))
-
--- a move of kinds 1 to 8 in its box; others are not made there
-abbrev pub insideNumberAs : List ℕ → Box → List ℕ → Kind → ℕ → ℕ → ℕ
-insideNumberAs kinds x r (inside k) t u = outcomeNumber (insideMove kinds x r k t u)
-insideNumberAs kinds x r inter t u = 12
-insideNumberAs kinds x r unknown t u = 12
-
-unfoldable pub insideNumber : List ℕ → Box → List ℕ → ℕ → ℕ → ℕ → ℕ
-insideNumber kinds x r kind t u = insideNumberAs kinds x r (kindOfMove kind) t u
 
 -- inter, once both threads are at their lines: the channels v and w, the records that they are of, and the name sent
 unfoldable pub channelsNumber : List ℕ → List ℕ → List ℕ → ℕ → ℕ → ℕ → ℕ

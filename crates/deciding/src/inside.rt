@@ -7,7 +7,8 @@ ghost use Rattle.definitions.specs.Record as words;
 ghost use Rattle.definitions.specs.Moves as moves;
 ghost use Rattle.definitions.specs.Calls.{outcomeNumber};
 ghost use Rattle.lookups.specs.Ready.{BoxReady};
-ghost use Rattle.deciding.specs.Numbers.{unless, orNext, lineNumber, turnNumber, channelNumber, insideNumber};
+ghost use Rattle.lookups.specs.Inside.{insideOutcome};
+ghost use Rattle.deciding.specs.Numbers.{unless, orNext, lineNumber, turnNumber, channelNumber};
 use lookups::thread_line;
 use lookups::value;
 use state::STAMP_LIMIT;
@@ -101,7 +102,7 @@ fn expose(model: &[u8], places: u64, b: usize, r: &[u32], t: usize) -> u8
 // A move of kinds 1 to 8; others are not made in a box.
 pub fn allowed(model: &[u8], places: u64, b: usize, r: &[u32], kind: u32, t: usize, u: usize) -> u8
     requires { ⌜ BoxReady (now model) places b (now r) ⌝ }
-    ensures { λ n. ⌜ n ≡ insideNumber (modelOf (now (model .entry)) .kinds) (boxAt (modelOf (now (model .entry))) b) (now (r .entry)) kind t u ⌝ }
+    ensures { λ n. ⌜ n ≡ outcomeNumber (insideOutcome (modelOf (now (model .entry)) .kinds) (boxAt (modelOf (now (model .entry))) b) (now (r .entry)) kind t u) ⌝ }
 {
     match kind {
         1 => at_line(model, places, b, r, t, 0),

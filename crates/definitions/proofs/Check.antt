@@ -48,16 +48,16 @@ mul-mod-r a b m =
     ∙ ap (λ (x : ℕ). x % m) (mul-add a (b / m * m) (b % m) ∙ ap (λ (y : ℕ). y + a * (b % m)) (sym (mul-assoc a (b / m) m)))
     ∙ mul-add-mod-self-right (a * (b / m)) m (a * (b % m)))
 
+pub mul-mod-l : (a b m : ℕ) → (a % m * b) % m ≡ (a * b) % m
+mul-mod-l a b m = ap (λ (x : ℕ). x % m) (mul-comm (a % m) b) ∙ mul-mod-r b a m ∙ ap (λ (x : ℕ). x % m) (mul-comm b a)
+
 -- what the first n words of a list add: each times the power of 31 that counts the words after it
 unfoldable pub weigh : ℕ → List ℕ → ℕ
 weigh zero s = 0
 weigh (suc n) s = wordAt s 0 * 31 ^ n + weigh n (drop 8 s)
 
 reduced : (c q r : ℕ) → (c % 2 ^ 64 * q + r) % 2 ^ 64 ≡ (c * q + r) % 2 ^ 64
-reduced c q r =
-    let h : (c % 2 ^ 64 * q) % 2 ^ 64 ≡ (c * q) % 2 ^ 64 =
-    ap (λ (x : ℕ). x % 2 ^ 64) (mul-comm (c % 2 ^ 64) q) ∙ mul-mod-r q c (2 ^ 64) ∙ ap (λ (x : ℕ). x % 2 ^ 64) (mul-comm q c) in
-    omega (arith, h)
+reduced c q r = omega (arith, mul-mod-l c q (2 ^ 64))
 
 spread : (c w q r : ℕ) → (31 * c + w) * q + r ≡ c * (31 * q) + (w * q + r)
 spread c w q r =

@@ -1,13 +1,15 @@
 -- What a loop knows at its head, and the laws for its start, turn, early stop and end: a test at every number and at some number, one
--- after another, and a first fault. Assumes nothing.
+-- after another, words joined, and a first fault. Assumes nothing.
 use mathlib.Core.Path.{_≡_, refl, sym, ap, ap₂, subst, _∙_}
 use mathlib.Core.Bool.{Bool, true, false, not, _&&_}
+use mathlib.Core.Logic.{_↔_}
 use mathlib.Core.Option.{Option, none, some}
 use Prim.Native.Nat.{ℕ, _+_, _≤_, _<_, zero-le}
-use native.Mathlib.Nat.{le-antisymm, not-suc-le-zero}
+use native.Mathlib.Nat.{le-refl, le-antisymm, not-suc-le-zero}
 use native.Mathlib.Numerals.{add-one}
 use native.Mathlib.Omega.{arith}
 use native.Mathlib.Decide.{ℕ-discrete}
+use lib.Bits.{bitOr, or-add-and, and-le-l, and-le-r}
 use lib.Dec.{T}
 use Rattle.definitions.specs.Bounded.{_and_, _or_, allBelow, anyBelow, orElse, firstBelow}
 use Rattle.definitions.proofs.Bounded.{
@@ -71,6 +73,45 @@ module _ (n : ℕ) (p : ℕ → Bool) where
 
   pub joining-end : (i : ℕ) (ok : Bool) → Joining n p i ok → n ≤ i → ok ≡ allBelow n p
   joining-end i ok h l = h .same ∙ ap (λ (m : ℕ). allBelow m p) (le-antisymm (h .upto) l)
+
+-- ---- words from one number up to another, joined with no branch and tested once against zero
+
+-- two words joined are zero where both are
+pub join-iff : (v w : ℕ) → (bitOr v w ≡ 0) ↔ ((v ≡ 0) × (w ≡ 0))
+join-iff v w =
+    let sum = or-add-and v w in
+    let a = and-le-l v w in
+    let b = and-le-r v w in
+    (λ e. (omega arith, omega arith), λ p. let x = p .0 in let y = p .1 in omega arith)
+
+-- the words from `from` up to i are joined to w, and they are all before `to`
+pub record ZeroRun (f : ℕ → ℕ) (from to i w : ℕ) : Type 0 where
+  pub start : from ≤ i
+  pub inside : (j : ℕ) → from ≤ j → j < i → j < to
+  pub each : w ≡ 0 → (j : ℕ) → j < i → from ≤ j → f j ≡ 0
+  pub whole : ((j : ℕ) → j < i → from ≤ j → f j ≡ 0) → w ≡ 0
+
+module _ (f : ℕ → ℕ) (from to : ℕ) where
+  pub zeros-start : ZeroRun f from to from 0
+  zeros-start = record { start = le-refl from; inside = λ j a b. absurd (omega arith); each = λ _ j l q. absurd (omega arith); whole = λ _. refl }
+
+  pub zeros-turn : (i w v : ℕ) → ZeroRun f from to i w → i < to → v ≡ f i → ZeroRun f from to (i + 1) (bitOr w v)
+  zeros-turn i w v p h d = record {
+    start = omega (arith, p .start);
+    inside = λ j a b. omega arith;
+    each = λ e j l q. pick (join-iff w v .0 e) j l q (ℕ-discrete i j);
+    whole = λ g. join-iff w v .1 (p .whole (λ j l q. g j (omega arith) q), d ∙ g i (omega arith) (p .start));
+  }
+    where
+      pick : (w ≡ 0) × (v ≡ 0) → (j : ℕ) → j < i + 1 → from ≤ j → Dec (i ≡ j) → f j ≡ 0
+      pick e j l q (yes z) = ap f (sym z) ∙ sym d ∙ e .1
+      pick e j l q (no z) = p .each (e .0) j (omega arith) q
+
+  pub zeros-end : (i w : ℕ) → ZeroRun f from to i w → to ≤ i → (w ≡ 0) ↔ ((j : ℕ) → j < to → from ≤ j → f j ≡ 0)
+  zeros-end i w p h = (
+    λ e j l q. p .each e j (omega arith) q,
+    λ g. p .whole (λ j l q. g j (p .inside j q l) q),
+  )
 
 -- ---- a test at some number below n
 

@@ -1,6 +1,6 @@
 -- Start, step and run as calls on any image, any lent words and any moves: the answer, and the words of each lent buffer after it. A
 -- refusal writes nothing. Assumes nothing.
-use mathlib.Core.Bool.{not}
+use mathlib.Core.Bool.{Bool, not}
 use mathlib.Core.List.{List, [], _∷_}
 use mathlib.Core.Option.{Option, none, some}
 use Prim.Native.Nat.{ℕ}
@@ -47,11 +47,14 @@ abbrev pub outcomeRefusal : Outcome (List ℕ) → Option Refusal
 outcomeRefusal (refused n) = some (unplaced n)
 outcomeRefusal (made w) = none
 
--- step: the model, 10, 11, then the move's own 12 to 20
+-- the refusals before a first move: the model's; 10 where a lent list has the wrong length; 11 where the words break a state rule
+unfoldable pub movesRefusal : List ℕ → List ℕ → Bool → Option Refusal
+movesRefusal image words wrong =
+    orElse (readModel image) (orElse (someIf wrong (unplaced 10)) (someIf (not (stateFits (modelOf image) words)) (unplaced 11)))
+
+-- step: refused before its move with 10 for the state's length, and else with the move's own 12 to 20
 unfoldable pub stateRefusal : List ℕ → List ℕ → Option Refusal
-stateRefusal image words =
-    orElse (readModel image)
-    (orElse (someIf (length words isnt stateLength) (unplaced 10)) (someIf (not (stateFits (modelOf image) words)) (unplaced 11)))
+stateRefusal image words = movesRefusal image words (length words isnt stateLength)
 
 unfoldable pub step : List ℕ → List ℕ → Move → StepResult
 step image words v =
@@ -85,12 +88,9 @@ pub record RunResult : Type 0 where
   pub words : List ℕ
   pub answers : List ℕ
 
--- the model; 10 for the state's length or the answer list's; 11
+-- run: refused before its first move with 10 for the state's length or the answer list's
 unfoldable pub runRefusal : List ℕ → List ℕ → List Move → List ℕ → Option Refusal
-runRefusal image words moves answers =
-    orElse (readModel image)
-    (orElse (someIf (length words isnt stateLength or length answers isnt length moves) (unplaced 10))
-    (someIf (not (stateFits (modelOf image) words)) (unplaced 11)))
+runRefusal image words moves answers = movesRefusal image words (length words isnt stateLength or length answers isnt length moves)
 
 -- a run that is not refused is the list of its step calls (crate isolation, proofs/Reached, run-is-steps)
 unfoldable pub run : List ℕ → List ℕ → List Move → List ℕ → RunResult

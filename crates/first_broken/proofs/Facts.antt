@@ -2,27 +2,26 @@
 use mathlib.Core.Path.{_≡_, sym, ap, subst, _∙_}
 use mathlib.Core.Bool.{Bool, true, false}
 use mathlib.Core.List.{List}
-use mathlib.Core.Logic.{_≢_, inr}
-use Prim.Native.Nat.{ℕ, _+_, _-_, _*_, _/_, _%_, _≤_, _<_}
+use mathlib.Core.Logic.{_≢_}
+use Prim.Native.Nat.{ℕ, _+_, _*_, _/_, _%_, _≤_, _<_}
 use native.Mathlib.Omega.{arith}
 use native.Mathlib.Decide.{ℕ-discrete}
 use mir.Val.{Fits}
 use mir.Syntax.{w8}
 use lib.Dec.{T}
 use lib.ListN.{length}
-use Rattle.definitions.specs.Bounded.{_and_, _or_, _is_}
 use Rattle.definitions.specs.Sets.{has}
 use Rattle.definitions.specs.Words.{blockOf, countOf}
 use Rattle.definitions.specs.Model as paper
-use Rattle.definitions.specs.Image.{siteRecord, lineRecord, nameCount, boxesOf, kindsOf, sitesBlock, linesOf, boxOfImage, modelOf}
+use Rattle.definitions.specs.Image.{siteRecord, lineRecord, nameCount, boxesOf, sitesBlock, linesOf, boxOfImage, modelOf}
 use Rattle.definitions.specs.Estimate.{estimateOf}
 use Rattle.definitions.specs.ReadModel.{lineFits, typeFits, usesName1, usesName2}
-use Rattle.definitions.proofs.Bounded.{tests, and-iff, or-iff, is-iff, any-iff, not-false}
+use Rattle.definitions.proofs.Bounded.{tests, not-false}
 use Rattle.definitions.proofs.Faults.{not-iff}
 use Rattle.definitions.proofs.Sets.{forEach-iff, has-none}
-use Rattle.definitions.proofs.Image.{model-count, model-box, model-kinds, model-names, box-sites, box-site, box-lines, box-line}
+use Rattle.definitions.proofs.Image.{model-count, model-box, box-sites, box-site, box-lines, box-line}
 use Rattle.definitions.proofs.Valid.{Valid}
-use Rattle.definitions.proofs.ReadModel.{Blocks, read-iff, valid-image, lines-there, sites-there}
+use Rattle.definitions.proofs.ReadModel.{Blocks, read-iff, valid-image, lines-there, lines-most, sites-there}
 use Rattle.definitions.proofs.ReadEstimate.{EstimateFits, estimate-fits}
 use Rattle.records.specs.declared.Site.{Site}
 use Rattle.records.specs.declared.Line.{Line}
@@ -31,6 +30,7 @@ use Rattle.records.specs.Records.{siteIn, lineIn}
 use Rattle.layouts.specs.LayoutOf.{LayoutOf}
 use Rattle.sets.specs.Names.{NamesOnly}
 use Rattle.clauses.specs.Known.{BoxOfNames, EstimateOfNames, LineOfNames}
+use Rattle.line_gather.specs.Gathered.{LinesOfNames}
 use Rattle.first_broken.specs.Known.{Unrefused}
 
 -- a line that fits names names of the list, or 0; its type is a set of names of the list, or none
@@ -44,7 +44,7 @@ line-fits kinds l few t =
       type = typed (ℕ-discrete (l .op) paper.expose) (λ e. p .0 .1 e .1 .0 .1) (p .1);
     }
   where
-    pick : {n : ℕ} (b : Bool) → (T b → n < length kinds) → ((T b → ⊥) → n ≡ 0) → n < 62
+    pick : {n : ℕ} (b : Bool) → (T b → n < length kinds) → ((T b → ⊥) → n ≡ 0) → n < 60
     pick true f g = let h = f tt in omega arith
     pick false f g = let h = g (λ t. t) in omega arith
 
@@ -73,17 +73,17 @@ module _ (model estimate : List ℕ) (u : Unrefused model estimate) where
   kinds-60 = valid .names
 
   pub box-8 : (l : Layout) (b : ℕ) → LayoutOf model l → b < l .boxes → b < 8
-  box-8 l b h i = omega (arith, boxes-8, h .boxes)
+  box-8 l b h i = omega (arith, boxes-8, h .frame .boxes)
 
   -- names
   pub name-60 : (n : ℕ) → n < nameCount model → n < 60
   name-60 n h = omega (arith, names-60)
 
   pub count-60 : (l : Layout) → LayoutOf model l → l .names ≤ 60
-  count-60 l h = omega (arith, names-60, h .names)
+  count-60 l h = omega (arith, names-60, h .frame .names)
 
   pub count-fits : (l : Layout) → LayoutOf model l → Fits w8 (l .names)
-  count-fits l h = record { fits = omega (arith, names-60, h .names) }
+  count-fits l h = record { fits = omega (arith, names-60, h .frame .names) }
 
   pub estimate-512 : 512 ≤ length estimate
   estimate-512 = omega (arith, fits .size)
@@ -145,31 +145,21 @@ module _ (model estimate : List ℕ) (u : Unrefused model estimate) where
         line-in : i < linesOf model b → i < paper.lineCount (paper.boxAt (modelOf model) b)
         line-in h = rw (same-box, box-lines model b) h
 
-        -- an input binds its second name, which is a listed name of kind 2
-        pub input-bound : (n : ℕ) → i < linesOf model b → paper.lineAt (paper.boxAt (modelOf model) b) i .op ≡ paper.input
-            → paper.lineAt (paper.boxAt (modelOf model) b) i .name2 ≡ n
-            → (n < nameCount model) × (paper.kindOfName (kindsOf model) n ≡ 2) × T (paper.bindsIn (boxOfImage model b) n)
-        unfolding paper.bindsIn paper.binds
-        input-bound n h o e =
-            let x = paper.boxAt (modelOf model) b in
-            let l = paper.lineAt x i in
-            let v = valid .box b in-model .line i (line-in h) in (
-              rw (sym (model-names model), sym (ap length (model-kinds model)), sym e) (v .receivedListed o),
-              rw (sym (model-kinds model), sym e) (v .receivedKind o),
-              subst (λ (y : paper.Box). T (paper.bindsIn y n)) same-box
-                  (any-iff (paper.lineCount x) (λ j. paper.binds (paper.lineAt x j) n) .1 (
-                    i,
-                    line-in h,
-                    or-iff ((l .op is paper.restriction or l .op is paper.expose) and l .name1 is n) (l .op is paper.input and l .name2 is n) .1
-                        (inr (and-iff (l .op is paper.input) (l .name2 is n) .1 (is-iff (l .op) paper.input .1 o, is-iff (l .name2) n .1 e))),
-                  )),
-            )
-
         pub line-there : i < linesOf model b → 512 * (k + 1 + i / 31 + 1) ≤ length model
         line-there h = rw at (lines-there model blocks b inside i h)
 
-        pub line-names : (l : Line) → i < linesOf model b → lineIn l ≡ lineRecord (blockOf model (k + 1 + i / 31)) (i % 31) → LineOfNames (lineIn l)
-        line-names l h e =
-            subst LineOfNames (line-at h ∙ sym e)
+        record-names : i < linesOf model b → LineOfNames (lineRecord (blockOf model (k + 1 + i / 31)) (i % 31))
+        record-names h =
+            subst LineOfNames (line-at h)
             (line-fits (modelOf model .kinds) (paper.lineAt (paper.boxAt (modelOf model) b) i) kinds-60
             (read-iff model .0 (u .model) .model .lines b in-model i (line-in h)))
+
+        pub line-names : (l : Line) → i < linesOf model b → lineIn l ≡ lineRecord (blockOf model (k + 1 + i / 31)) (i % 31) → LineOfNames (lineIn l)
+        line-names l h e = subst LineOfNames (sym e) (record-names h)
+
+    -- the lines of the box
+    pub lines-named : (k n : ℕ) → k ≡ sitesBlock model b → n ≡ linesOf model b → LinesOfNames model k n
+    lines-named k n at en = record {
+      there = record { few = omega (arith, lines-most model blocks b inside, en); there = λ i h. line-there k at i (rw en at h) };
+      each = λ i h. record-names k at i (rw en at h);
+    }

@@ -7,20 +7,31 @@ ghost use Rattle.definitions.specs.Image.{boxesOf, sitesBlock, linesOf, modelOf
 ghost use Rattle.definitions.specs.Estimate.{estimateOf};
 ghost use Rattle.definitions.specs.Clauses.{siteBroken, lineBroken, boxBroken};
 ghost use Rattle.layouts.specs.LayoutOf.{LayoutOf};
+ghost use Rattle.links.specs.Types.{TypeTable};
 ghost use Rattle.sharing.specs.Shared.{Sends};
-ghost use Rattle.first_broken.specs.Found.{foundIn};
-ghost use Rattle.first_broken.specs.Known.{Unrefused, DecidesInputs};
-use crate::Found;
-use crate::lines;
+ghost use Rattle.record_clauses.specs.Found.{foundIn};
+ghost use Rattle.first_broken.specs.Known.{Unrefused};
 use layouts::Layout;
+use record_clauses::Found;
+use record_clauses::lines;
 
+// Clause 2, at site i of box b, whose sites are block k.
+fn site(model: &[u8], estimate: &[u8], k: usize, b: usize, i: usize) -> Found
+    requires { ⌜ Unrefused (now model) (now estimate) × (b < boxesOf (now model)) × (k ≡ sitesBlock (now model) b) × (i < countOf (blockOf (now model) k)) ⌝ }
+    ensures { λ r. ⌜ foundIn r ≡ siteBroken (modelOf (now (model .entry))) (estimateOf (now (estimate .entry))) b i ⌝ }
+{
+    let s = records::inside::site(model, k, i);
+    lines::unless(clauses::clause2(estimate, b, s), 2, b, i)
+}
+
+// The sites of box b.
 fn sites(model: &[u8], estimate: &[u8], k: usize, b: usize, count: usize) -> Found
     requires { ⌜ Unrefused (now model) (now estimate) × (b < boxesOf (now model)) × (k ≡ sitesBlock (now model) b) × (count ≡ countOf (blockOf (now model) k)) ⌝ }
     ensures { λ r. ⌜ foundIn r ≡ firstBelow count (siteBroken (modelOf (now (model .entry))) (estimateOf (now (estimate .entry))) b) ⌝ }
 {
     let mut i = 0;
     while i < count {
-        let f = lines::site(model, estimate, k, b, i);
+        let f = site(model, estimate, k, b, i);
         if let Found::First(_) = f {
             return f;
         }
@@ -29,20 +40,26 @@ fn sites(model: &[u8], estimate: &[u8], k: usize, b: usize, count: usize) -> Fou
     Found::Nothing
 }
 
+// Line by line: the first that breaks a clause.
 fn each_line(
     model: &[u8],
     estimate: &[u8],
-    table: &[u64; 64],
+    sends: &[u64; 8],
+    types: &[u64; 8],
+    boxes: usize,
     k: usize,
     b: usize,
     total: usize,
 ) -> Found
-    requires { ⌜ Unrefused (now model) (now estimate) × DecidesInputs (now model) (now estimate) b (now table) × (b < boxesOf (now model)) × (k ≡ sitesBlock (now model) b) × (total ≡ linesOf (now model) b) ⌝ }
+    requires { ⌜ Unrefused (now model) (now estimate) × Sends (now estimate) boxes (now sends) × TypeTable (estimateOf (now estimate)) boxes (now types) × (boxes ≡ boxesOf (now model)) × (b < boxes) × (k ≡ sitesBlock (now model) b) × (total ≡ linesOf (now model) b) ⌝ }
     ensures { λ r. ⌜ foundIn r ≡ firstBelow total (lineBroken (modelOf (now (model .entry))) (estimateOf (now (estimate .entry))) b) ⌝ }
 {
+    let mut g = sharing::nothing();
     let mut j = 0;
     while j < total {
-        let f = lines::line(model, estimate, table, k, b, j);
+        let l = records::inside::line(model, k, j);
+        g = lines::gather(estimate, sends, types, boxes, b, l, g);
+        let f = lines::by_operation(estimate, g, b, j, l);
         if let Found::First(_) = f {
             return f;
         }
@@ -51,28 +68,37 @@ fn each_line(
     Found::Nothing
 }
 
-// The lines of box b, whose sites are block k. Clause 6 goes by a table for the names that the box's inputs bind.
+// The lines of box b, whose sites are block k: one walk that may show that no clause is broken, and else line by line.
 fn lines_of(
     model: &[u8],
     estimate: &[u8],
     sends: &[u64; 8],
+    types: &[u64; 8],
     layout: Layout,
     k: usize,
     b: usize,
 ) -> Found
-    requires { ⌜ Unrefused (now model) (now estimate) × LayoutOf (now model) layout × Sends (now estimate) (layout .boxes) (now sends) × (b < layout .boxes) × (b < 8) × (k ≡ sitesBlock (now model) b) ⌝ }
+    requires { ⌜ Unrefused (now model) (now estimate) × LayoutOf (now model) layout × Sends (now estimate) (layout .boxes) (now sends) × TypeTable (estimateOf (now estimate)) (layout .boxes) (now types) × (b < layout .boxes) × (b < 8) × (k ≡ sitesBlock (now model) b) ⌝ }
     ensures { λ r. ⌜ foundIn r ≡ firstBelow (linesOf (now (model .entry)) b) (lineBroken (modelOf (now (model .entry))) (estimateOf (now (estimate .entry))) b) ⌝ }
 {
-    let bound = layout.bound;
-    let inputs = sets::intersection(bound[b], layout.received);
-    let table = sharing::table(estimate, sends, layout.boxes, b, inputs);
     let counts = layout.lines;
-    each_line(model, estimate, &table, k, b, counts[b])
+    let total = counts[b];
+    if clause_walk::lines_pass(model, estimate, sends, types, layout.boxes, k, b, total) {
+        return Found::Nothing;
+    }
+    each_line(model, estimate, sends, types, layout.boxes, k, b, total)
 }
 
 // Box b: its sites, then its lines.
-fn one_box(model: &[u8], estimate: &[u8], sends: &[u64; 8], layout: Layout, b: usize) -> Found
-    requires { ⌜ Unrefused (now model) (now estimate) × LayoutOf (now model) layout × Sends (now estimate) (layout .boxes) (now sends) × (b < layout .boxes) × (b < 8) ⌝ }
+fn one_box(
+    model: &[u8],
+    estimate: &[u8],
+    sends: &[u64; 8],
+    types: &[u64; 8],
+    layout: Layout,
+    b: usize,
+) -> Found
+    requires { ⌜ Unrefused (now model) (now estimate) × LayoutOf (now model) layout × Sends (now estimate) (layout .boxes) (now sends) × TypeTable (estimateOf (now estimate)) (layout .boxes) (now types) × (b < layout .boxes) × (b < 8) ⌝ }
     ensures { λ r. ⌜ foundIn r ≡ boxBroken (modelOf (now (model .entry))) (estimateOf (now (estimate .entry))) b ⌝ }
 {
     let at = layout.at;
@@ -82,16 +108,23 @@ fn one_box(model: &[u8], estimate: &[u8], sends: &[u64; 8], layout: Layout, b: u
     if let Found::First(_) = f {
         return f;
     }
-    lines_of(model, estimate, sends, layout, k, b)
+    lines_of(model, estimate, sends, types, layout, k, b)
 }
 
-pub fn boxes(model: &[u8], estimate: &[u8], sends: &[u64; 8], layout: Layout, count: usize) -> Found
-    requires { ⌜ Unrefused (now model) (now estimate) × LayoutOf (now model) layout × Sends (now estimate) (layout .boxes) (now sends) × (count ≡ layout .boxes) ⌝ }
+pub fn boxes(
+    model: &[u8],
+    estimate: &[u8],
+    sends: &[u64; 8],
+    types: &[u64; 8],
+    layout: Layout,
+    count: usize,
+) -> Found
+    requires { ⌜ Unrefused (now model) (now estimate) × LayoutOf (now model) layout × Sends (now estimate) (layout .boxes) (now sends) × TypeTable (estimateOf (now estimate)) (layout .boxes) (now types) × (count ≡ layout .boxes) ⌝ }
     ensures { λ r. ⌜ foundIn r ≡ firstBelow count (boxBroken (modelOf (now (model .entry))) (estimateOf (now (estimate .entry)))) ⌝ }
 {
     let mut b = 0;
     while b < count {
-        let f = one_box(model, estimate, sends, layout, b);
+        let f = one_box(model, estimate, sends, types, layout, b);
         if let Found::First(_) = f {
             return f;
         }

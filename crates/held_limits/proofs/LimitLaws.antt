@@ -200,7 +200,7 @@ module _ (image : List ℕ) (l : Layout) (last : ℕ → ℕ) (lay : LayoutOf im
   kind-set : (k s : ℕ) → OfKind image k s → (kind is k) ≡ has s n
   unfolding _and_
   kind-set k s o =
-      let h : n < nameCount image = omega (arith, lay .names) in
+      let h : n < nameCount image = omega (arith, lay .frame .names) in
       ap (λ (kinds : List ℕ). kindOfName kinds n is k) (model-kinds image)
       ∙ ap (λ (b : Bool). b and kindOfName (kindsOf image) n is k) (sym (true-of (n below nameCount image) (below-iff n (nameCount image) .1 h)))
       ∙ sym (o n (omega arith))
@@ -212,23 +212,23 @@ module _ (image : List ℕ) (l : Layout) (last : ℕ → ℕ) (lay : LayoutOf im
   isnt-free f = false-of (kind is 0) (λ t. f (is-iff kind 0 .0 t))
 
   low-free : kind ≡ 0 → held n 0 ≡ leastHeld (l .free) n
-  low-free e = least-free (l .free) n (kind is 0) (kind-set 0 (l .free) (lay .free)) _ (is-free e) refl
+  low-free e = least-free (l .free) n (kind is 0) (kind-set 0 (l .free) (lay .frame .free)) _ (is-free e) refl
 
   low-made : kind ≢ 0 → held n 1 ≡ leastHeld (l .free) n
-  low-made f = least-made (l .free) n (kind is 0) (kind-set 0 (l .free) (lay .free)) _ (isnt-free f) refl
+  low-made f = least-made (l .free) n (kind is 0) (kind-set 0 (l .free) (lay .frame .free)) _ (isnt-free f) refl
 
   high-free : kind ≡ 0 → held n 0 ≡ largestHeld l last n
-  high-free e = largest-free l last n (kind is 0) (kind-set 0 (l .free) (lay .free)) _ (is-free e) refl
+  high-free e = largest-free l last n (kind is 0) (kind-set 0 (l .free) (lay .frame .free)) _ (is-free e) refl
 
   high-received : kind ≡ 2 → 0 ≡ largestHeld l last n
   high-received e =
-      largest-received l last n (kind is 0) (kind-set 0 (l .free) (lay .free)) (isnt-free (λ z. absurd (omega arith))) (kind is 2) (kind-set 2 (l .received) (lay .received))
+      largest-received l last n (kind is 0) (kind-set 0 (l .free) (lay .frame .free)) (isnt-free (λ z. absurd (omega arith))) (kind is 2) (kind-set 2 (l .received) (lay .frame .received))
       (true-of (kind is 2) (is-iff kind 2 .1 e))
 
   high-made : (o : Option ℕ) → owner (modelOf image) n ≡ o → kind ≢ 0 → kind ≢ 2 → elim o [ none ↦ 0 | some b ↦ held n (last b) ] ≡ largestHeld l last n
   unfolding largestMade
   high-made o e f g =
-      largest-made l last n (kind is 0) (kind-set 0 (l .free) (lay .free)) (isnt-free f) (kind is 2) (kind-set 2 (l .received) (lay .received)) _
+      largest-made l last n (kind is 0) (kind-set 0 (l .free) (lay .frame .free)) (isnt-free f) (kind is 2) (kind-set 2 (l .received) (lay .frame .received)) _
       (false-of (kind is 2) (λ t. g (is-iff kind 2 .0 t)))
       (ap (λ (x : Option ℕ). elim x as (λ _. ℕ) [ none ↦ 0 | some b ↦ held n (last b) ]) (sym (binder-owner image l n lay (omega arith) ∙ e)))
 
@@ -241,7 +241,7 @@ module _ (image : List ℕ) (l : Layout) (last : ℕ → ℕ) (lay : LayoutOf im
   unfolding held heldStamp heldNumber
   between-fits a b = record {
     given = some-held;
-    listed = omega (arith, lay .names, ap length (model-kinds image), model-names image);
+    listed = omega (arith, lay .frame .names, ap length (model-kinds image), model-names image);
     notReceived = λ e. absurd (omega (arith, high-received image l last lay few name inside e));
     free = λ e. omega (arith, high-free image l last lay few name inside e);
     made = λ f. by-owner (owner (modelOf image) name) refl f (λ e. absurd (omega (arith, high-received image l last lay few name inside e)));
@@ -302,7 +302,7 @@ module _ (l : Layout) (st : List ℕ) (names n : ℕ) (low high : List ℕ) (p :
         let small : heldNumber v < 64 = number-low v in
         let b = p .highs .rest (heldNumber v) (omega (arith, p .all, p .so-far)) small in (
           λ t. absurd (let x = limit-at v f .0 t in omega arith),
-          λ k. absurd (omega (arith, k .listed, lay .names, ap length (model-kinds image), model-names image)),
+          λ k. absurd (omega (arith, k .listed, lay .frame .names, ap length (model-kinds image), model-names image)),
         )
 
     same-limits : (v : ℕ) → Dec (v ≡ 0) → inLimits low high v ≡ heldFits (modelOf image) last v

@@ -2,30 +2,28 @@
 -- reduction); that no inter move that names a shut-off box is made. And a run is the list of its step calls. Assumes nothing.
 use mathlib.Core.Path.{_≡_, refl, ap, subst, sym, _∙_}
 use mathlib.Core.Logic.{_⊎_, inl, inr, _≢_, ⊎-elim}
-use mathlib.Core.Bool.{Bool, true, false, not}
+use mathlib.Core.Bool.{true, not}
 use mathlib.Core.List.{List, [], _∷_}
 use mathlib.Core.Option.{Option, none, some}
 use Prim.Native.Nat.{ℕ}
 use native.Mathlib.Omega.{arith}
 use lib.Dec.{T}
-use lib.ListN.{length}
-use Rattle.definitions.specs.Bounded.{_or_, _is_, _isnt_, someIf, orElse}
-use Rattle.definitions.specs.Answer.{Refusal, unplaced}
+use Rattle.definitions.specs.Bounded.{_is_}
+use Rattle.definitions.specs.Answer.{Refusal}
 use Rattle.definitions.specs.Model.{Model}
 use Rattle.definitions.specs.Image.{modelOf}
 use Rattle.definitions.specs.ReadModel.{readModel}
 use Rattle.definitions.specs.Estimate.{estimateOf}
 use Rattle.definitions.specs.Clauses.{accepted, check}
 use Rattle.definitions.specs.ShutOff.{isShutOff, question}
-use Rattle.definitions.specs.StateRules.{stateFits}
-use Rattle.definitions.specs.Record.{stateLength}
 use Rattle.definitions.specs.Start.{startState}
 use Rattle.definitions.specs.Moves.{Kind, inter, kindOfMove, Move, Outcome, refused, made, interAct, actAs, act}
-use Rattle.definitions.specs.Calls.{start, outcomeWords, outcomeRefusal, stateRefusal, step, MovesResult, steps, actAll, runRefusal, run}
+use Rattle.definitions.specs.Calls.{start, outcomeWords, outcomeRefusal, stateRefusal, step, MovesResult, steps, actAll, run}
 use Rattle.isolation.specs.Group.{namesAs, names, only}
-use Rattle.definitions.proofs.Bounded.{left-none, right-none, fault-none, or-iff, is-iff, true-of, false-of}
+use Rattle.definitions.proofs.Bounded.{right-none, or-iff, is-iff, true-of, false-of}
 use Rattle.definitions.proofs.ReadModel.{valid-image}
 use Rattle.definitions.proofs.StateRules.{StateFits, state-iff}
+use Rattle.definitions.proofs.Calls.{run-iff}
 use Rattle.definitions.proofs.Made.{inter-act}
 use Rattle.isolation.proofs.KeepState.{act-fits}
 use Rattle.isolation.proofs.StartFits.{start-fits}
@@ -75,17 +73,10 @@ one-side h b c n (inr e) = false-of (b is h) (λ t. let q = is-iff b h .0 t in n
 -- what a run that is not refused says of the model and of the words it was lent
 run-state : (model words : List ℕ) (vs : List Move) (answers : List ℕ) → run model words vs answers .answer ≡ none
     → (readModel model ≡ none) × StateFits (modelOf model) words
-unfolding run runRefusal
+unfolding run
 run-state model words vs answers e =
-    let size = someIf (length words isnt stateLength or length answers isnt length vs) (unplaced 10) in
-    let state = someIf (not (stateFits (modelOf model) words)) (unplaced 11) in
-    let rest = right-none (readModel model) (orElse size state) e in
-    let t = fault-none (not (stateFits (modelOf model) words)) (unplaced 11) (right-none size state rest) in
-    (left-none (readModel model) (orElse size state) e, state-iff (modelOf model) words .0 (kept (stateFits (modelOf model) words) t))
-  where
-    kept : (b : Bool) → (T (not b) → ⊥) → T b
-    kept true f = tt
-    kept false f = f tt
+    let p = run-iff model words vs answers .0 e in
+    (p .0, state-iff (modelOf model) words .0 (p .1 .1))
 
 -- ---- from a start that is not refused
 

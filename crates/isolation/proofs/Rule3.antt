@@ -1,14 +1,14 @@
 -- Rule 3, entire: from the question's yes to equal answers and equal records. Assumes nothing.
 use mathlib.Core.Path.{_≡_, refl, ap, ap₂, subst, sym, _∙_}
-use mathlib.Core.Bool.{Bool, true, false, not}
+use mathlib.Core.Bool.{Bool, true, false}
 use mathlib.Core.List.{List, [], _∷_}
 use mathlib.Core.Option.{Option, none, some}
 use Prim.Native.Nat.{ℕ, _<_}
 use native.Mathlib.Omega.{arith}
 use native.Mathlib.Decide.{decLt}
-use lib.Dec.{T, T-not}
+use lib.Dec.{T}
 use lib.ListN.{length}
-use Rattle.definitions.specs.Bounded.{_is_, _isnt_, _below_, someIf, orElse}
+use Rattle.definitions.specs.Bounded.{_isnt_, _below_, someIf, orElse}
 use Rattle.definitions.specs.Answer.{Refusal, unplaced, answerNumber}
 use Rattle.definitions.specs.Model.{Model, boxCount}
 use Rattle.definitions.specs.Image.{nameCount, boxesOf, modelOf}
@@ -23,11 +23,12 @@ use Rattle.definitions.specs.Start.{startRecord, startState}
 use Rattle.definitions.specs.Moves.{Move, Outcome, refused, made, act}
 use Rattle.definitions.specs.Calls.{written, startRefusal, start, outcomeNumber, outcomeWords, outcomeRefusal, stateRefusal, step, MovesResult, steps, actAll, run}
 use Rattle.isolation.specs.Group.{only, struck, answersLeft, EqualOutside}
-use Rattle.definitions.proofs.Bounded.{tests, left-none, none-fault, of-true, isnt-iff}
+use Rattle.definitions.proofs.Bounded.{tests, left-none, of-true}
 use Rattle.definitions.proofs.Valid.{Valid}
 use Rattle.definitions.proofs.Image.{model-count}
 use Rattle.definitions.proofs.ReadModel.{valid-image}
 use Rattle.definitions.proofs.StateRules.{StateFits, state-iff}
+use Rattle.definitions.proofs.Calls.{step-iff}
 use Rattle.isolation.proofs.KeepState.{act-fits, inside-size, inter-size}
 use Rattle.definitions.proofs.Start.{start-record, start-lacking}
 use Rattle.isolation.proofs.StartFits.{start-fits}
@@ -103,10 +104,7 @@ module _ (image : List ℕ) (read : readModel image ≡ none) (Good : List ℕ �
     (size : (st : List ℕ) → Good st → length st ≡ stateLength) (fits : (st : List ℕ) → Good st → T (stateFits (modelOf image) st))
     (next : (st : List ℕ) → Good st → (v : Move) (w : List ℕ) → act (modelOf image) st v ≡ made w → Good w) where
   no-refusal : (st : List ℕ) → Good st → stateRefusal image st ≡ none
-  unfolding stateRefusal
-  no-refusal st g =
-      ap₂ orElse read (ap₂ orElse (none-fault (length st isnt stateLength) (unplaced 10) (λ t. (isnt-iff (length st) stateLength .0 t) (size st g)))
-      (none-fault (not (stateFits (modelOf image) st)) (unplaced 11) (λ t. T-not (stateFits (modelOf image) st) t (fits st g))))
+  no-refusal st g = step-iff image st .1 (read, (size st g, fits st g))
 
   step-act : (st : List ℕ) → Good st → (v : Move)
       → (answerNumber (step image st v .answer) ≡ outcomeNumber (act (modelOf image) st v)) × (step image st v .words ≡ outcomeWords st (act (modelOf image) st v))

@@ -1,24 +1,18 @@
 -- A run from a start is never refused, each answer belongs to its own step, and rule 3 entire. Assumes nothing.
-use mathlib.Core.Path.{_≡_, refl, ap, ap₂, _∙_}
-use mathlib.Core.Bool.{not}
-use mathlib.Core.Logic.{⊎-elim}
+use mathlib.Core.Path.{_≡_, refl, ap, _∙_}
 use mathlib.Core.List.{List, [], _∷_, _++_}
 use mathlib.Core.Option.{none}
 use Prim.Native.Nat.{ℕ}
-use lib.Dec.{T-not}
 use lib.ListN.{length}
-use Rattle.definitions.specs.Bounded.{_or_, _isnt_, orElse}
-use Rattle.definitions.specs.Answer.{unplaced, answerNumber}
+use Rattle.definitions.specs.Answer.{answerNumber}
 use Rattle.definitions.specs.Image.{modelOf}
 use Rattle.definitions.specs.ReadModel.{readModel}
-use Rattle.definitions.specs.Record.{stateLength}
-use Rattle.definitions.specs.StateRules.{stateFits}
 use Rattle.definitions.specs.Start.{startState}
 use Rattle.definitions.specs.Moves.{Move}
-use Rattle.definitions.specs.Calls.{start, step, steps, runRefusal, run}
-use Rattle.definitions.proofs.Bounded.{none-fault, or-iff, isnt-iff}
+use Rattle.definitions.specs.Calls.{step, steps, run}
 use Rattle.definitions.proofs.ReadModel.{valid-image}
 use Rattle.definitions.proofs.StateRules.{StateFits, state-iff}
+use Rattle.definitions.proofs.Calls.{run-iff}
 use Rattle.isolation.specs.Rule3.{ran}
 use Rattle.isolation.specs.Runs.{NeverRefused, OwnStep, OwnSteps, Entire}
 use Rattle.isolation.proofs.StartFits.{start-fits}
@@ -28,16 +22,9 @@ use Rattle.isolation.proofs.Reached.{run-is-steps}
 -- a model that is read, words that obey the state rules, and as many answers as moves: none of the run's tests fails
 run-unrefused : (model words : List ℕ) (moves : List Move) (answers : List ℕ) → readModel model ≡ none → StateFits (modelOf model) words
     → length answers ≡ length moves → run model words moves answers .answer ≡ none
-unfolding run runRefusal
+unfolding run
 run-unrefused model words moves answers read fits l =
-    let size = length words isnt stateLength in
-    let room = length answers isnt length moves in
-    let spoilt = not (stateFits (modelOf model) words) in
-    ap₂ orElse read
-    (ap₂ orElse
-    (none-fault (size or room) (unplaced 10) (λ t.
-    ⊎-elim (λ a. isnt-iff (length words) stateLength .0 a (fits .size)) (λ a. isnt-iff (length answers) (length moves) .0 a l) (or-iff size room .0 t)))
-    (none-fault spoilt (unplaced 11) (λ t. T-not (stateFits (modelOf model) words) t (state-iff (modelOf model) words .1 fits))))
+    run-iff model words moves answers .1 (read, ((fits .size, l), state-iff (modelOf model) words .1 fits))
 
 -- a start that is not refused has read its model, and the words that it wrote obey the state rules
 pub never-refused : NeverRefused

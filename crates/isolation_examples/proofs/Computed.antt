@@ -23,7 +23,7 @@ use Rattle.isolation_examples.specs.Example.{quiet, busy, filled, estima
 use Rattle.definitions.specs.Record.{held, heldNumber, heldStamp, lastStamps, recordOf, thread, threads, binding}
 use Rattle.definitions.specs.Start.{insert, ascending, typeWords, startSite, startRecord, startState}
 use Rattle.definitions.specs.Moves.{kindOfMove, siteWith, typesShare, valueIn, threadLine, onward, onwardWith, value1, value2, atLine, dropMove, spreadMove, newMove, copyMove, exposeMove, turnMove, intraMove, insideMove, interMove, insideAct, interAct, actAs, act}
-use Rattle.definitions.specs.Calls.{startRefusal, start, stateRefusal, step, steps, actAll, runRefusal, run}
+use Rattle.definitions.specs.Calls.{startRefusal, start, movesRefusal, stateRefusal, step, steps, actAll, runRefusal, run}
 use Rattle.isolation.specs.Group.{only, namesAs, names, struck, answersLeft}
 
 pub quiet-yes : question quietImage quietEstimate 2 ≡ isShutOff true
@@ -44,16 +44,16 @@ busy-model = refl
 
 pub quiet-acts : (actAll (filled quiet) (startState (filled quiet)) quietMoves .answers ≡ 0 ∷ 0 ∷ 0 ∷ [])
     × (lastStamps (actAll (filled quiet) (startState (filled quiet)) quietMoves .words) 2 ≡ 0)
-unfolding _and_ _or_ _implies_ _is_ _isnt_ _below_ _upto_ allBelow anyBelow firstBelow tabulate flat has forEach forSome within meets membersBelow members sizeBelow size siteAt lineAt boxAt kindOfName hasChild binds parent boundWithin boundAbove bindsIn owner zeros part put slot putSlot dropSlot pushSlot takeSlot held heldNumber heldStamp lastStamps insert ascending typeWords startSite startRecord startState kindOfMove siteWith typesShare valueIn threadLine onward onwardWith value1 value2 atLine dropMove spreadMove newMove copyMove exposeMove turnMove intraMove insideMove interMove insideAct interAct actAs act namesAs names startRefusal start stateRefusal step steps actAll runRefusal run only struck answersLeft boxK0 boxK1 K estimateK E starred sameNumbers sameBroken isSeen allSeen agrees allAgree imageK imageE sameSets quiet busy filled estimateFor quietImage busyImage quietEstimate busyEstimate quietMoves busyMoves sending estimateSending sendingImage sendingEstimate meeting
+unfolding _and_ _or_ _implies_ _is_ _isnt_ _below_ _upto_ allBelow anyBelow firstBelow tabulate flat has forEach forSome within meets membersBelow members sizeBelow size siteAt lineAt boxAt kindOfName hasChild binds parent boundWithin boundAbove bindsIn owner zeros part put slot putSlot dropSlot pushSlot takeSlot held heldNumber heldStamp lastStamps insert ascending typeWords startSite startRecord startState kindOfMove siteWith typesShare valueIn threadLine onward onwardWith value1 value2 atLine dropMove spreadMove newMove copyMove exposeMove turnMove intraMove insideMove interMove insideAct interAct actAs act namesAs names startRefusal start movesRefusal stateRefusal step steps actAll runRefusal run only struck answersLeft boxK0 boxK1 K estimateK E starred sameNumbers sameBroken isSeen allSeen agrees allAgree imageK imageE sameSets quiet busy filled estimateFor quietImage busyImage quietEstimate busyEstimate quietMoves busyMoves sending estimateSending sendingImage sendingEstimate meeting
 quiet-acts = (refl, refl)
 
 pub busy-acts : (actAll (filled busy) (startState (filled busy)) busyMoves .answers ≡ 0 ∷ 0 ∷ 0 ∷ 0 ∷ [])
     × (lastStamps (actAll (filled busy) (startState (filled busy)) busyMoves .words) 2 ≡ 1)
-unfolding _and_ _or_ _implies_ _is_ _isnt_ _below_ _upto_ allBelow anyBelow firstBelow tabulate flat has forEach forSome within meets membersBelow members sizeBelow size siteAt lineAt boxAt kindOfName hasChild binds parent boundWithin boundAbove bindsIn owner zeros part put slot putSlot dropSlot pushSlot takeSlot held heldNumber heldStamp lastStamps insert ascending typeWords startSite startRecord startState kindOfMove siteWith typesShare valueIn threadLine onward onwardWith value1 value2 atLine dropMove spreadMove newMove copyMove exposeMove turnMove intraMove insideMove interMove insideAct interAct actAs act namesAs names startRefusal start stateRefusal step steps actAll runRefusal run only struck answersLeft boxK0 boxK1 K estimateK E starred sameNumbers sameBroken isSeen allSeen agrees allAgree imageK imageE sameSets quiet busy filled estimateFor quietImage busyImage quietEstimate busyEstimate quietMoves busyMoves sending estimateSending sendingImage sendingEstimate meeting
+unfolding _and_ _or_ _implies_ _is_ _isnt_ _below_ _upto_ allBelow anyBelow firstBelow tabulate flat has forEach forSome within meets membersBelow members sizeBelow size siteAt lineAt boxAt kindOfName hasChild binds parent boundWithin boundAbove bindsIn owner zeros part put slot putSlot dropSlot pushSlot takeSlot held heldNumber heldStamp lastStamps insert ascending typeWords startSite startRecord startState kindOfMove siteWith typesShare valueIn threadLine onward onwardWith value1 value2 atLine dropMove spreadMove newMove copyMove exposeMove turnMove intraMove insideMove interMove insideAct interAct actAs act namesAs names startRefusal start movesRefusal stateRefusal step steps actAll runRefusal run only struck answersLeft boxK0 boxK1 K estimateK E starred sameNumbers sameBroken isSeen allSeen agrees allAgree imageK imageE sameSets quiet busy filled estimateFor quietImage busyImage quietEstimate busyEstimate quietMoves busyMoves sending estimateSending sendingImage sendingEstimate meeting
 busy-acts = (refl, refl)
 
 pub struck-same : struck (only 2) quietMoves ≡ struck (only 2) busyMoves
-unfolding _and_ _or_ _implies_ _is_ _isnt_ _below_ _upto_ allBelow anyBelow firstBelow tabulate flat has forEach forSome within meets membersBelow members sizeBelow size siteAt lineAt boxAt kindOfName hasChild binds parent boundWithin boundAbove bindsIn owner zeros part put slot putSlot dropSlot pushSlot takeSlot held heldNumber heldStamp lastStamps insert ascending typeWords startSite startRecord startState kindOfMove siteWith typesShare valueIn threadLine onward onwardWith value1 value2 atLine dropMove spreadMove newMove copyMove exposeMove turnMove intraMove insideMove interMove insideAct interAct actAs act namesAs names startRefusal start stateRefusal step steps actAll runRefusal run only struck answersLeft boxK0 boxK1 K estimateK E starred sameNumbers sameBroken isSeen allSeen agrees allAgree imageK imageE sameSets quiet busy filled estimateFor quietImage busyImage quietEstimate busyEstimate quietMoves busyMoves sending estimateSending sendingImage sendingEstimate meeting
+unfolding _and_ _or_ _implies_ _is_ _isnt_ _below_ _upto_ allBelow anyBelow firstBelow tabulate flat has forEach forSome within meets membersBelow members sizeBelow size siteAt lineAt boxAt kindOfName hasChild binds parent boundWithin boundAbove bindsIn owner zeros part put slot putSlot dropSlot pushSlot takeSlot held heldNumber heldStamp lastStamps insert ascending typeWords startSite startRecord startState kindOfMove siteWith typesShare valueIn threadLine onward onwardWith value1 value2 atLine dropMove spreadMove newMove copyMove exposeMove turnMove intraMove insideMove interMove insideAct interAct actAs act namesAs names startRefusal start movesRefusal stateRefusal step steps actAll runRefusal run only struck answersLeft boxK0 boxK1 K estimateK E starred sameNumbers sameBroken isSeen allSeen agrees allAgree imageK imageE sameSets quiet busy filled estimateFor quietImage busyImage quietEstimate busyEstimate quietMoves busyMoves sending estimateSending sendingImage sendingEstimate meeting
 struck-same = refl
 
 -- the box that sends v is K's own
@@ -72,7 +72,7 @@ sending-model = refl
 -- name 2 of thread 0 of box 0 holds what box 1 sent
 pub sending-acts : (binding (thread (recordOf (actAll (sending 4) (startState (sending 4)) meeting .words) 0) 0) 2 ≡ 5)
     × (binding (thread (recordOf (actAll (sending 5) (startState (sending 5)) meeting .words) 0) 0) 2 ≡ 6)
-unfolding _and_ _or_ _implies_ _is_ _isnt_ _below_ _upto_ allBelow anyBelow firstBelow tabulate flat has forEach forSome within meets membersBelow members sizeBelow size siteAt lineAt boxAt kindOfName hasChild binds parent boundWithin boundAbove bindsIn owner zeros part put slot putSlot dropSlot pushSlot takeSlot held heldNumber heldStamp lastStamps insert ascending typeWords startSite startRecord startState kindOfMove siteWith typesShare valueIn threadLine onward onwardWith value1 value2 atLine dropMove spreadMove newMove copyMove exposeMove turnMove intraMove insideMove interMove insideAct interAct actAs act namesAs names startRefusal start stateRefusal step steps actAll runRefusal run only struck answersLeft boxK0 boxK1 K estimateK E starred sameNumbers sameBroken isSeen allSeen agrees allAgree imageK imageE sameSets quiet busy filled estimateFor quietImage busyImage quietEstimate busyEstimate quietMoves busyMoves sending estimateSending sendingImage sendingEstimate meeting
+unfolding _and_ _or_ _implies_ _is_ _isnt_ _below_ _upto_ allBelow anyBelow firstBelow tabulate flat has forEach forSome within meets membersBelow members sizeBelow size siteAt lineAt boxAt kindOfName hasChild binds parent boundWithin boundAbove bindsIn owner zeros part put slot putSlot dropSlot pushSlot takeSlot held heldNumber heldStamp lastStamps insert ascending typeWords startSite startRecord startState kindOfMove siteWith typesShare valueIn threadLine onward onwardWith value1 value2 atLine dropMove spreadMove newMove copyMove exposeMove turnMove intraMove insideMove interMove insideAct interAct actAs act namesAs names startRefusal start movesRefusal stateRefusal step steps actAll runRefusal run only struck answersLeft boxK0 boxK1 K estimateK E starred sameNumbers sameBroken isSeen allSeen agrees allAgree imageK imageE sameSets quiet busy filled estimateFor quietImage busyImage quietEstimate busyEstimate quietMoves busyMoves sending estimateSending sendingImage sendingEstimate meeting
 sending-acts = (refl, refl)
 
 -- the sets of E that are asked for, where they stand in its image
@@ -86,5 +86,5 @@ E-unbroken = refl
 
 pub spread-acts : (actAll K (startState K) (spreadOf 0 0 ∷ []) .answers ≡ 0 ∷ []) × (threads (recordOf (actAll K (startState K) (spreadOf 0 0 ∷ []) .words) 0) ≡ 2)
     × (threads (recordOf (startState K) 0) ≡ 1)
-unfolding _and_ _or_ _implies_ _is_ _isnt_ _below_ _upto_ allBelow anyBelow firstBelow tabulate flat has forEach forSome within meets membersBelow members sizeBelow size siteAt lineAt boxAt kindOfName hasChild binds parent boundWithin boundAbove bindsIn owner zeros part put slot putSlot dropSlot pushSlot takeSlot held heldNumber heldStamp lastStamps insert ascending typeWords startSite startRecord startState kindOfMove siteWith typesShare valueIn threadLine onward onwardWith value1 value2 atLine dropMove spreadMove newMove copyMove exposeMove turnMove intraMove insideMove interMove insideAct interAct actAs act namesAs names startRefusal start stateRefusal step steps actAll runRefusal run only struck answersLeft boxK0 boxK1 K estimateK E starred sameNumbers sameBroken isSeen allSeen agrees allAgree imageK imageE sameSets quiet busy filled estimateFor quietImage busyImage quietEstimate busyEstimate quietMoves busyMoves sending estimateSending sendingImage sendingEstimate meeting
+unfolding _and_ _or_ _implies_ _is_ _isnt_ _below_ _upto_ allBelow anyBelow firstBelow tabulate flat has forEach forSome within meets membersBelow members sizeBelow size siteAt lineAt boxAt kindOfName hasChild binds parent boundWithin boundAbove bindsIn owner zeros part put slot putSlot dropSlot pushSlot takeSlot held heldNumber heldStamp lastStamps insert ascending typeWords startSite startRecord startState kindOfMove siteWith typesShare valueIn threadLine onward onwardWith value1 value2 atLine dropMove spreadMove newMove copyMove exposeMove turnMove intraMove insideMove interMove insideAct interAct actAs act namesAs names startRefusal start movesRefusal stateRefusal step steps actAll runRefusal run only struck answersLeft boxK0 boxK1 K estimateK E starred sameNumbers sameBroken isSeen allSeen agrees allAgree imageK imageE sameSets quiet busy filled estimateFor quietImage busyImage quietEstimate busyEstimate quietMoves busyMoves sending estimateSending sendingImage sendingEstimate meeting
 spread-acts = (refl, refl, refl)

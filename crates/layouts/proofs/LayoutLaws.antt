@@ -1,5 +1,5 @@
--- Laws of a layout: the names by kind, a box's row, and the rows of all boxes. Assumes nothing.
-use mathlib.Core.Path.{_≡_, refl, sym, ap, ap₂, _∙_, subst}
+-- Laws of a layout's frame: the names by kind, a box's row, and the rows of all boxes. Assumes nothing.
+use mathlib.Core.Path.{_≡_, refl, sym, ap, _∙_, subst}
 use mathlib.Core.Bool.{Bool}
 use mathlib.Core.List.{List}
 use mathlib.Core.Logic.{_⊎_, inl, inr, ⊎-elim}
@@ -14,23 +14,21 @@ use lib.ListN.{length, getD, set, length-set}
 use lib.Seq.{getD-set-same, getD-set-other}
 use mir.Syntax.{w64}
 use mir.Val.{Fits}
-use Rattle.definitions.specs.Bounded.{_and_, _or_, _is_, _below_, anyBelow}
+use Rattle.definitions.specs.Bounded.{_and_, _or_, _is_, _below_}
 use Rattle.definitions.specs.Sets.{has}
 use Rattle.definitions.specs.Words.{blockOf, countOf, dataWord}
-use Rattle.definitions.specs.Model.{Line, lineAt, binds, bindsIn, kindOfName}
-use Rattle.definitions.specs.Image.{nameCount, boxesOf, kindsOf, lineBlocks, sitesBlock, linesOf, boxOfImage}
+use Rattle.definitions.specs.Model.{kindOfName}
+use Rattle.definitions.specs.Image.{nameCount, boxesOf, kindsOf, lineBlocks, sitesBlock, linesOf}
 use Rattle.definitions.specs.ReadModel.{blocksFault}
-use Rattle.definitions.proofs.Bounded.{and-iff, or-iff, is-iff, below-iff, any-cong, false-of, same-test}
+use Rattle.definitions.proofs.Bounded.{and-iff, or-iff, is-iff, below-iff, false-of, same-test}
 use Rattle.definitions.proofs.Sets.{has-none}
-use Rattle.definitions.proofs.Image.{model-kind, box-lines, box-line}
-use Rattle.definitions.proofs.ReadModel.{Blocks, blocks-iff, some-block, most-blocks, sites-first, sites-next, lines-most, lines-there}
+use Rattle.definitions.proofs.Image.{model-kind}
+use Rattle.definitions.proofs.ReadModel.{Blocks, blocks-iff, some-block, most-blocks, sites-first, sites-next, lines-most}
 use Rattle.layouts.specs.declared.Kinds.{Kinds}
 use Rattle.layouts.specs.declared.BoxLayout.{BoxLayout}
 use Rattle.records.specs.NameSets.{SetOf, insertIf}
-use Rattle.records.specs.Places.{LinesThere, lineRecordAt}
 use Rattle.layouts.specs.Layouts.{isBelow, kindIn, lineTotal, KindInserted, KindSetsOf, BoxLayoutOf}
-use Rattle.box_runs.specs.Runs.{boundIn}
-use Rattle.layouts.specs.LayoutOf.{LayoutOf, OfKind}
+use Rattle.layouts.specs.LayoutOf.{FrameOf, OfKind}
 
 -- ---- the names by kind
 
@@ -138,25 +136,14 @@ module _ (image : List ℕ) (k n : ℕ) (e : n ≡ lineBlocks 4 image (k + 1)) w
   pub total-fits : (c : ℕ) → c ≡ countOf (blockOf image (k + n)) → lineTotal image k ≤ 124 → Fits w64 (31 * (n - 1) + c)
   total-fits c q l = let h = total-is c q in omega arith
 
-pub total-few : (image : List ℕ) (k : ℕ) → LinesThere image k (lineTotal image k) → lineTotal image k ≤ 124
-total-few image k h = h .few
-
-pub total-there : (image : List ℕ) (k n : ℕ) → n ≡ lineTotal image k → LinesThere image k (lineTotal image k) → LinesThere image k n
-total-there image k n e h = subst (λ (m : ℕ). LinesThere image k m) (sym e) h
-
-pub box-layout-is : (image : List ℕ) (k n c m bound : ℕ) → n ≡ lineTotal image k → SetOf bound (boundIn image k n) → c ≡ countOf (blockOf image k)
-    → m ≡ lineBlocks 4 image (k + 1) → BoxLayoutOf image k (record { sites = c; lines = n; bound = bound; next = k + 1 + m })
-box-layout-is image k n c m bound e b q z = record {
-  sites = q;
-  lines = e;
-  bound = subst (λ (i : ℕ). SetOf bound (boundIn image k i)) e b;
-  next = ap (λ (i : ℕ). k + 1 + i) z;
-}
+pub box-layout-is : (image : List ℕ) (k n c m : ℕ) → n ≡ lineTotal image k → c ≡ countOf (blockOf image k) → m ≡ lineBlocks 4 image (k + 1)
+    → BoxLayoutOf image k (record { sites = c; lines = n; next = k + 1 + m })
+box-layout-is image k n c m e q z = record { sites = q; lines = e; next = ap (λ (i : ℕ). k + 1 + i) z }
 
 -- ---- the head
 
 module _ (image : List ℕ) (f : blocksFault image ≡ none) where
-  right : Blocks image
+  pub right : Blocks image
   right = blocks-iff image .0 f
 
   pub head-inside : 512 * (0 + 1) ≤ length image
@@ -171,15 +158,17 @@ module _ (image : List ℕ) (f : blocksFault image ≡ none) where
 
 -- ---- the rows of boxes
 
+-- an entry written: what held of the entries before it and of its value holds up to it
 module _ (P : ℕ → ℕ → Type 0) where
-  set-entry : (xs : List ℕ) (b v : ℕ) → b < length xs → ((c : ℕ) → c < b → P c (getD xs c 0)) → P b v → (c : ℕ) → c < b + 1 → P c (getD (set xs b v) c 0)
+  pub set-entry : (xs : List ℕ) (b v : ℕ) → b < length xs → ((c : ℕ) → c < b → P c (getD xs c 0)) → P b v → (c : ℕ) → c < b + 1 → P c (getD (set xs b v) c 0)
   set-entry xs b v l f p c h = pick (ℕ-discrete b c)
     where
       pick : Dec (b ≡ c) → P c (getD (set xs b v) c 0)
       pick (yes z) = subst (λ (d : ℕ). P d (getD (set xs b v) d 0)) z (subst (P b) (sym (getD-set-same xs b v 0 l)) p)
       pick (no z) = subst (P c) (sym (getD-set-other xs b c v 0 (λ q. z (sym q)))) (f c (omega arith))
 
-pub record LayoutSoFar (image : List ℕ) (boxes b k : ℕ) (at sites lines bound : List ℕ) : Type 0 where
+-- the rows of the boxes before b
+pub record FrameSoFar (image : List ℕ) (boxes b k : ℕ) (at sites lines : List ℕ) : Type 0 where
   pub all : boxes ≡ boxesOf image
   pub few : boxes ≤ 8
   pub upto : b ≤ boxes
@@ -188,16 +177,14 @@ pub record LayoutSoFar (image : List ℕ) (boxes b k : ℕ) (at sites lines boun
   pub at-long : length at ≡ 8
   pub sites-long : length sites ≡ 8
   pub lines-long : length lines ≡ 8
-  pub bound-long : length bound ≡ 8
   pub ats : (c : ℕ) → c < b → getD at c 0 ≡ sitesBlock image c
   pub counts : (c : ℕ) → c < b → getD sites c 0 ≡ countOf (blockOf image (sitesBlock image c))
   pub totals : (c : ℕ) → c < b → getD lines c 0 ≡ linesOf image c
-  pub binders : (c : ℕ) → c < b → (n : ℕ) → n < 64 → has (getD bound c 0) n ≡ bindsIn (boxOfImage image c) n
 
-pub layout-start : (image : List ℕ) (w : ℕ) (at sites lines bound : List ℕ) → blocksFault image ≡ none → w ≡ dataWord (blockOf image 0) 1
-    → length at ≡ 8 → length sites ≡ 8 → length lines ≡ 8 → length bound ≡ 8 → LayoutSoFar image w 0 1 at sites lines bound
+pub frame-start : (image : List ℕ) (w : ℕ) (at sites lines : List ℕ) → blocksFault image ≡ none → w ≡ dataWord (blockOf image 0) 1
+    → length at ≡ 8 → length sites ≡ 8 → length lines ≡ 8 → FrameSoFar image w 0 1 at sites lines
 unfolding boxesOf
-layout-start image w at sites lines bound f e la ls ll lb = record {
+frame-start image w at sites lines f e la ls ll = record {
   all = e;
   few = (let h = right image f .head .boxes in omega arith);
   upto = zero-le;
@@ -206,34 +193,24 @@ layout-start image w at sites lines bound f e la ls ll lb = record {
   at-long = la;
   sites-long = ls;
   lines-long = ll;
-  bound-long = lb;
   ats = λ c l. absurd (omega arith);
   counts = λ c l. absurd (omega arith);
   totals = λ c l. absurd (omega arith);
-  binders = λ c l. absurd (omega arith);
 }
-
--- the lines of a box in its image bind what the box's lines bind
-bound-box : (image : List ℕ) (b n : ℕ) → boundIn image (sitesBlock image b) (linesOf image b) n ≡ bindsIn (boxOfImage image b) n
-unfolding boundIn bindsIn
-bound-box image b n =
-    any-cong (linesOf image b) (λ i. binds (lineRecordAt image (sitesBlock image b) i) n) (λ i. binds (lineAt (boxOfImage image b) i) n)
-    (λ i l. ap (λ (y : Line). binds y n) (sym (box-line image b i l)))
-    ∙ ap (λ (m : ℕ). anyBelow m (λ i. binds (lineAt (boxOfImage image b) i) n)) (sym (box-lines image b))
 
 total-lines : (image : List ℕ) (b : ℕ) → lineTotal image (sitesBlock image b) ≡ linesOf image b
 unfolding lineTotal linesOf
 total-lines image b = refl
 
-module _ (image : List ℕ) (boxes b k : ℕ) (at sites lines bound : List ℕ) (p : LayoutSoFar image boxes b k at sites lines bound) where
+module _ (image : List ℕ) (boxes b k : ℕ) (at sites lines : List ℕ) (p : FrameSoFar image boxes b k at sites lines) where
   pub box-small : b < boxes → k ≤ 99
   box-small l = let h = p .small in let q = p .few in omega arith
 
-  pub box-there : blocksFault image ≡ none → b < boxes → LinesThere image k (lineTotal image k)
-  box-there f l =
-      let inside : b < boxesOf image = let z = p .all in omega arith in
-      subst (λ (i : ℕ). LinesThere image i (lineTotal image i)) (sym (p .here)) (subst (LinesThere image (sitesBlock image b)) (sym (total-lines image b))
-      (record { few = lines-most image (right image f) b inside; there = lines-there image (right image f) b inside }))
+  total-here : lineTotal image k ≡ linesOf image b
+  total-here = ap (lineTotal image) (p .here) ∙ total-lines image b
+
+  pub total-few : blocksFault image ≡ none → b < boxes → lineTotal image k ≤ 124
+  total-few f l = let z = p .all in omega (arith, total-here, lines-most image (right image f) b (omega arith))
 
   pub at-room : b < boxes → b < length at
   at-room l = let z = p .at-long in let q = p .few in omega arith
@@ -244,30 +221,22 @@ module _ (image : List ℕ) (boxes b k : ℕ) (at sites lines bound : List ℕ) 
   pub lines-room : b < boxes → b < length lines
   lines-room l = let z = p .lines-long in let q = p .few in omega arith
 
-  pub bound-room : b < boxes → b < length bound
-  bound-room l = let z = p .bound-long in let q = p .few in omega arith
-
-  pub layout-more : (r : BoxLayout) → b < boxes → BoxLayoutOf image k r
-      → LayoutSoFar image boxes (b + 1) (r .next) (set at b k) (set sites b (r .sites)) (set lines b (r .lines)) (set bound b (r .bound))
-  layout-more r l t =
-      let total : lineTotal image k ≡ linesOf image b = ap (lineTotal image) (p .here) ∙ total-lines image b in
-      record {
-        all = p .all;
-        few = p .few;
-        upto = omega arith;
-        here = t .next ∙ sites-next image b k (lineBlocks 4 image (k + 1)) (p .here) refl;
-        small = (let h = most-blocks 4 image (k + 1) in let z = p .small in let q = t .next in omega arith);
-        at-long = length-set at b k ∙ p .at-long;
-        sites-long = length-set sites b (r .sites) ∙ p .sites-long;
-        lines-long = length-set lines b (r .lines) ∙ p .lines-long;
-        bound-long = length-set bound b (r .bound) ∙ p .bound-long;
-        ats = set-entry (λ c v. v ≡ sitesBlock image c) at b k (at-room l) (p .ats) (p .here);
-        counts = set-entry (λ c v. v ≡ countOf (blockOf image (sitesBlock image c))) sites b (r .sites) (sites-room l) (p .counts)
-            (t .sites ∙ ap (λ (i : ℕ). countOf (blockOf image i)) (p .here));
-        totals = set-entry (λ c v. v ≡ linesOf image c) lines b (r .lines) (lines-room l) (p .totals) (t .lines ∙ total);
-        binders = set-entry (λ c v. (n : ℕ) → n < 64 → has v n ≡ bindsIn (boxOfImage image c) n) bound b (r .bound) (bound-room l) (p .binders)
-            (λ n h. t .bound .at n h ∙ ap₂ (λ (i m : ℕ). boundIn image i m n) (p .here) total ∙ bound-box image b n);
-      }
+  pub frame-more : (r : BoxLayout) → b < boxes → BoxLayoutOf image k r
+      → FrameSoFar image boxes (b + 1) (r .next) (set at b k) (set sites b (r .sites)) (set lines b (r .lines))
+  frame-more r l t = record {
+    all = p .all;
+    few = p .few;
+    upto = omega arith;
+    here = t .next ∙ sites-next image b k (lineBlocks 4 image (k + 1)) (p .here) refl;
+    small = (let h = most-blocks 4 image (k + 1) in let z = p .small in let q = t .next in omega arith);
+    at-long = length-set at b k ∙ p .at-long;
+    sites-long = length-set sites b (r .sites) ∙ p .sites-long;
+    lines-long = length-set lines b (r .lines) ∙ p .lines-long;
+    ats = set-entry (λ c v. v ≡ sitesBlock image c) at b k (at-room l) (p .ats) (p .here);
+    counts = set-entry (λ c v. v ≡ countOf (blockOf image (sitesBlock image c))) sites b (r .sites) (sites-room l) (p .counts)
+        (t .sites ∙ ap (λ (i : ℕ). countOf (blockOf image i)) (p .here));
+    totals = set-entry (λ c v. v ≡ linesOf image c) lines b (r .lines) (lines-room l) (p .totals) (t .lines ∙ total-here);
+  }
 
 -- ---- the whole
 
@@ -283,9 +252,9 @@ of-kind image names k s e p n l =
     and-iff (n below nameCount image) (dataWord (blockOf image 0) (2 + n) is k) .1
     (q .0, subst (λ (v : ℕ). T (v is k)) (model-kind image n (below-iff n (nameCount image) .0 (q .0))) (q .1)))
 
-pub layout-end : (image : List ℕ) (names boxes b k : ℕ) (at sites lines bound : List ℕ) (s : Kinds) → LayoutSoFar image boxes b k at sites lines bound → boxes ≤ b
+pub frame-end : (image : List ℕ) (names boxes b k : ℕ) (at sites lines bound : List ℕ) (s : Kinds) → FrameSoFar image boxes b k at sites lines → boxes ≤ b
     → names ≡ dataWord (blockOf image 0) 0 → KindSetsOf (blockOf image 0) names s
-    → LayoutOf image (record {
+    → FrameOf image (record {
       names = names;
       boxes = boxes;
       at = at;
@@ -299,13 +268,12 @@ pub layout-end : (image : List ℕ) (names boxes b k : ℕ) (at sites lines boun
       exposed = s .exposed;
     })
 unfolding isBelow nameCount
-layout-end image names boxes b k at sites lines bound s p l e t = record {
+frame-end image names boxes b k at sites lines bound s p l e t = record {
   names = e;
   boxes = p .all;
   at = λ c h. p .ats c (let z = p .all in omega arith);
   sites = λ c h. p .counts c (let z = p .all in omega arith);
   lines = λ c h. p .totals c (let z = p .all in omega arith);
-  bound = λ c h. p .binders c (let z = p .all in omega arith);
   listed = λ n h. t .listed .at n h ∙ ap (λ (m : ℕ). n below m) e;
   free = of-kind image names 0 (s .free) e (t .free);
   restricted = of-kind image names 1 (s .restricted) e (t .restricted);
@@ -313,4 +281,4 @@ layout-end image names boxes b k at sites lines bound s p l e t = record {
   exposed = of-kind image names 3 (s .exposed) e (t .exposed);
 }
 
-pub ruleset layouts = (needs, kinds-none, kinds-insert, kinds-all, some-lines, few-lines, last-block, next-block, total-is, total-fits, total-few, total-there, box-layout-is, head-inside, head-long, names-few, layout-start, box-small, box-there, at-room, sites-room, lines-room, bound-room, layout-more, layout-end)
+pub ruleset layouts = (needs, kinds-none, kinds-insert, kinds-all, some-lines, few-lines, last-block, next-block, total-is, total-fits, box-layout-is, head-inside, head-long, names-few, frame-start, box-small, total-few, at-room, sites-room, lines-room, frame-more, frame-end)

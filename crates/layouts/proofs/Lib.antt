@@ -1,2 +1,4 @@
+pub mod BoundLaws
+pub mod FrameLaws
 pub mod LayoutLaws
 pub mod OwnerLaws

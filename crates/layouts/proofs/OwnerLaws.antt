@@ -55,7 +55,7 @@ module _ (bound : List ℕ) (boxes n : ℕ) where
 pub binder-owner : (image : List ℕ) (l : Layout) (n : ℕ) → LayoutOf image l → n < 64 → firstBinder (l .bound) (l .boxes) n ≡ owner (modelOf image) n
 unfolding firstBinder owner
 binder-owner image l n h w =
-    ap (λ (boxes : ℕ). firstBelow boxes (binderAt (l .bound) n)) (h .boxes ∙ sym (model-count image))
+    ap (λ (boxes : ℕ). firstBelow boxes (binderAt (l .bound) n)) (h .frame .boxes ∙ sym (model-count image))
     ∙ first-cong (boxCount (modelOf image)) (binderAt (l .bound) n) (λ b. someIf (bindsIn (boxAt (modelOf image) b) n) b)
     (λ b q. let k : b < boxesOf image = omega (arith, model-count image) in
     ap (λ (t : Bool). someIf t b) (h .bound b k n w ∙ ap (λ (x : Box). bindsIn x n) (sym (model-box image b k))))

@@ -14,17 +14,22 @@ use Rattle.layouts.specs.declared.Layout.{Layout}
 abbrev pub OfKind : List ℕ → ℕ → ℕ → Type 0
 OfKind image k s = (n : ℕ) → n < 64 → has s n ≡ (n below nameCount image and kindOfName (kindsOf image) n is k)
 
-pub record LayoutOf (image : List ℕ) (l : Layout) : Type 0 where
+-- all that a layout says but the names that lines bind
+pub record FrameOf (image : List ℕ) (l : Layout) : Type 0 where
   pub names : l .names ≡ nameCount image
   pub boxes : l .boxes ≡ boxesOf image
-  -- box b: the block of its sites, how many sites and lines it has, and the names that its lines bind
+  -- box b: the block of its sites, and how many sites and lines it has
   pub at : (b : ℕ) → b < boxesOf image → getD (l .at) b 0 ≡ sitesBlock image b
   pub sites : (b : ℕ) → b < boxesOf image → getD (l .sites) b 0 ≡ countOf (blockOf image (sitesBlock image b))
   pub lines : (b : ℕ) → b < boxesOf image → getD (l .lines) b 0 ≡ linesOf image b
-  pub bound : (b : ℕ) → b < boxesOf image → (n : ℕ) → n < 64 → has (getD (l .bound) b 0) n ≡ bindsIn (boxOfImage image b) n
   -- the listed names, and those of each kind
   pub listed : (n : ℕ) → n < 64 → has (l .listed) n ≡ (n below nameCount image)
   pub free : OfKind image 0 (l .free)
   pub restricted : OfKind image 1 (l .restricted)
   pub received : OfKind image 2 (l .received)
   pub exposed : OfKind image 3 (l .exposed)
+
+-- the frame, and the names that the lines of box b bind
+pub record LayoutOf (image : List ℕ) (l : Layout) : Type 0 where
+  pub frame : FrameOf image l
+  pub bound : (b : ℕ) → b < boxesOf image → (n : ℕ) → n < 64 → has (getD (l .bound) b 0) n ≡ bindsIn (boxOfImage image b) n

@@ -10,7 +10,6 @@ use Rattle.definitions.specs.Words.{blockOf, countOf, dataWord}
 use Rattle.definitions.specs.Model.{listed}
 use Rattle.definitions.specs.Image.{lineBlocks}
 use Rattle.records.specs.NameSets.{SetOf, insertIf}
-use Rattle.box_runs.specs.Runs.{boundIn}
 use Rattle.layouts.specs.declared.Kinds.{Kinds}
 use Rattle.layouts.specs.declared.BoxLayout.{BoxLayout}
 
@@ -45,5 +44,4 @@ pub record KindSetsOf (block : List ℕ) (n : ℕ) (r : Kinds) : Type 0 where
 pub record BoxLayoutOf (image : List ℕ) (k : ℕ) (r : BoxLayout) : Type 0 where
   pub sites : r .sites ≡ countOf (blockOf image k)
   pub lines : r .lines ≡ lineTotal image k
-  pub bound : SetOf (r .bound) (boundIn image k (lineTotal image k))
   pub next : r .next ≡ k + 1 + lineBlocks 4 image (k + 1)

@@ -5,9 +5,8 @@ ghost use Prim.Native.Nat.{_%_, _≤_};
 ghost use lib.ListN.{length};
 ghost use Rattle.definitions.specs.Words.{blockOf};
 ghost use Rattle.definitions.specs.ReadModel.{blocksFault};
-ghost use Rattle.records.specs.Places.{LinesThere};
 ghost use Rattle.layouts.specs.Layouts.{lineTotal, KindInserted, KindSetsOf, BoxLayoutOf};
-ghost use Rattle.layouts.specs.LayoutOf.{LayoutOf};
+ghost use Rattle.layouts.specs.LayoutOf.{FrameOf, LayoutOf};
 ghost use Rattle.layouts.specs.Owners.{ownerIn, firstBinder};
 use records::names::insert_if;
 use sets::NameNo;
@@ -83,32 +82,29 @@ fn line_total(image: &[u8], k: usize) -> usize
     31 * (n - 1) + block_order::count(image, k + n)
 }
 
-// A box: how many sites and lines it has, the names that its lines bind, and the block after it.
+// A box: how many sites and lines it has, and the block after it.
 pub struct BoxLayout {
     pub sites: usize,
     pub lines: usize,
-    pub bound: u64,
     pub next: usize,
 }
 
 // The box whose sites are block k.
 fn box_layout(image: &[u8], k: usize) -> BoxLayout
-    requires { ⌜ (length (now image) % 512 ≡ 0) × (k ≤ 99) × LinesThere (now image) k (lineTotal (now image) k) ⌝ }
+    requires { ⌜ (length (now image) % 512 ≡ 0) × (k ≤ 99) × (lineTotal (now image) k ≤ 124) ⌝ }
     ensures { λ r. ⌜ BoxLayoutOf (now (image .entry)) k r ⌝ }
 {
-    let n = line_total(image, k);
-    let bound = box_runs::bound_by(image, k, n);
     BoxLayout {
         sites: block_order::count(image, k),
-        lines: n,
-        bound,
+        lines: line_total(image, k),
         next: k + 1 + block_order::line_blocks(image, k + 1),
     }
 }
 
-pub fn layout_of(image: &[u8]) -> Layout
+// All of the layout but the names that lines bind.
+pub fn frame_of(image: &[u8]) -> Layout
     requires { ⌜ (length (now image) % 512 ≡ 0) × (blocksFault (now image) ≡ none) ⌝ }
-    ensures { λ r. ⌜ LayoutOf (now (image .entry)) r ⌝ }
+    ensures { λ r. ⌜ FrameOf (now (image .entry)) r ⌝ }
 {
     let names = blocks::inside::data_word(image, 0, 0) as usize;
     let boxes = blocks::inside::data_word(image, 0, 1) as usize;
@@ -116,7 +112,6 @@ pub fn layout_of(image: &[u8]) -> Layout
     let mut at = [0usize; 8];
     let mut sites = [0usize; 8];
     let mut lines = [0usize; 8];
-    let mut bound = [0u64; 8];
     let mut k = 1;
     let mut b = 0;
     while b < boxes {
@@ -124,7 +119,6 @@ pub fn layout_of(image: &[u8]) -> Layout
         at[b] = k;
         sites[b] = found.sites;
         lines[b] = found.lines;
-        bound[b] = found.bound;
         k = found.next;
         b += 1;
     }
@@ -134,12 +128,43 @@ pub fn layout_of(image: &[u8]) -> Layout
         at,
         sites,
         lines,
-        bound,
+        bound: [0u64; 8],
         listed: kinds.listed,
         free: kinds.free,
         restricted: kinds.restricted,
         received: kinds.received,
         exposed: kinds.exposed,
+    }
+}
+
+// The frame, and the names that the lines of each box bind.
+pub fn layout_of(image: &[u8]) -> Layout
+    requires { ⌜ (length (now image) % 512 ≡ 0) × (blocksFault (now image) ≡ none) ⌝ }
+    ensures { λ r. ⌜ LayoutOf (now (image .entry)) r ⌝ }
+{
+    let l = frame_of(image);
+    let at = l.at;
+    let sites = l.sites;
+    let lines = l.lines;
+    let boxes = l.boxes;
+    let mut bound = [0u64; 8];
+    let mut b = 0;
+    while b < boxes {
+        bound[b] = box_runs::bound_by(image, at[b], lines[b]);
+        b += 1;
+    }
+    Layout {
+        names: l.names,
+        boxes,
+        at,
+        sites,
+        lines,
+        bound,
+        listed: l.listed,
+        free: l.free,
+        restricted: l.restricted,
+        received: l.received,
+        exposed: l.exposed,
     }
 }
 

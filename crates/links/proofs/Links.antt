@@ -1,8 +1,9 @@
 -- The union of a box's types; and boxes that are linked, one after another. Assumes nothing.
 use mathlib.Core.Path.{_≡_, sym, ap, _∙_}
-use mathlib.Core.Bool.{Bool, true, false, not}
+use mathlib.Core.Bool.{Bool, true, not}
 use mathlib.Core.Logic.{_⊎_, inl, inr, ⊎-elim}
-use Prim.Native.Nat.{ℕ, _^_, _<_}
+use mathlib.Core.List.{List}
+use Prim.Native.Nat.{ℕ, _^_, _≤_, _<_}
 use borrow.Author.Needs.{needs}
 use lib.Dec.{T}
 use Rattle.definitions.specs.Bounded.{_or_, _implies_, _isnt_}
@@ -15,7 +16,8 @@ use Rattle.definitions.proofs.Loops.{fails, holds, passing-start, passing-turn,
 use Rattle.sets.specs.Lowest.{lowestOf, WithoutLowest}
 use Rattle.sets.proofs.Walk.{Left, left-start, left-turn, walk-less, split-some, none-some}
 use Rattle.clauses.proofs.Members.{UnionOf, left-62, left-64, names-shown}
-use Rattle.links.specs.Types.{Types}
+use Rattle.clauses.proofs.Rows.{Rows, rows-start, rows-turn, rows-end, rows-size}
+use Rattle.links.specs.Types.{Types, TypeTable}
 
 -- ---- the union of types
 
@@ -67,6 +69,13 @@ module _ (e : Estimate) (h k : ℕ) where
   unfolding linked
   linked-as u v r i o t = i ∙ o .same v ∙ forSome-cong (e .shown h) (λ a. meets v (e .eps h a)) (λ a. forSome (e .shown k) (λ c. meets (e .eps h a) (e .eps k c))) (λ a _. meets-comm v (e .eps h a) ∙ t .same (e .eps h a))
 
+-- the table of them
+abbrev pub TypesOf : Estimate → ℕ → ℕ → Type 0
+TypesOf e k v = Types e k (e .shown k) v
+
+pub types-end : (e : Estimate) (boxes k : ℕ) (t : List ℕ) → Rows (TypesOf e) k t → boxes ≤ k → TypeTable e boxes t
+types-end e boxes k t f h = record { size = f .size; each = rows-end (TypesOf e) boxes k t f h }
+
 -- ---- every other box
 
 module _ (h k : ℕ) (c : Bool) where
@@ -78,6 +87,6 @@ module _ (h k : ℕ) (c : Bool) where
   unfolding _implies_
   other-box x y f e q = ap not e ∙ sym q ∙ sym (ap (λ (z : Bool). z implies c) (true-of (k isnt h) (isnt-iff k h .1 f)))
 
-pub ruleset unions = (needs, walk-less, left-62, left-64, names-shown, typing-start, typing-turn, typing-end, types-as, linked-as)
+pub ruleset unions = (needs, walk-less, left-62, left-64, names-shown, typing-start, typing-turn, typing-end, types-as, linked-as, rows-start, rows-turn, rows-size, types-end)
 
 pub ruleset apart = (needs, fails, holds, passing-start, passing-turn, passing-stop, passing-end, same-box, other-box)

@@ -8,10 +8,10 @@ ghost use Rattle.definitions.specs.Estimate.{estimateOf};
 ghost use Rattle.definitions.specs.ShutOff as shut;
 ghost use Rattle.sets.specs.Names.{NamesOnly};
 ghost use Rattle.clauses.specs.Known.{EstimateOfNames};
-ghost use Rattle.links.specs.Types.{Types};
+ghost use Rattle.links.specs.Types.{Types, TypeTable};
 
 // The union of box k's types on the names of s.
-fn types_on(estimate: &[u8], k: usize, s: u64) -> u64
+pub fn types_on(estimate: &[u8], k: usize, s: u64) -> u64
     requires { ⌜ (512 * (2 + 2 * k) ≤ length (now estimate)) × NamesOnly s ⌝ }
     ensures { λ r. ⌜ Types (estimateOf (now (estimate .entry))) k s r ⌝ }
 {
@@ -31,6 +31,20 @@ fn types(estimate: &[u8], boxes: usize, k: usize) -> u64
     ensures { λ r. ⌜ Types (estimateOf (now (estimate .entry))) k (estimateOf (now (estimate .entry)) .shown k) r ⌝ }
 {
     types_on(estimate, k, estimate::shown(estimate, k))
+}
+
+// The union of each box's types on its shown names.
+pub fn all_types(estimate: &[u8], boxes: usize) -> [u64; 8]
+    requires { ⌜ EstimateOfNames (now estimate) boxes ⌝ }
+    ensures { λ r. ⌜ TypeTable (estimateOf (now (estimate .entry))) boxes r ⌝ }
+{
+    let mut t: [u64; 8] = [0; 8];
+    let mut i = 0;
+    while i < boxes {
+        t[i] = types(estimate, boxes, i);
+        i += 1;
+    }
+    t
 }
 
 // Boxes h and k are linked; x is the union of box h's types.

@@ -1,1 +1,2 @@
 pub mod LayoutOf
+pub mod Walks

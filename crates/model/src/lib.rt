@@ -1,8 +1,12 @@
 // A model image, read where it stands: its layout, or the refusal with its number and two places; and the box that binds a name.
 ghost use mathlib.Core.Path.{_≡_};
-ghost use Rattle.definitions.specs.ReadModel.{readModel};
+ghost use mathlib.Core.Option.{none};
+ghost use Prim.Native.Nat.{_%_};
+ghost use lib.ListN.{length};
+ghost use Rattle.definitions.specs.ReadModel.{blocksFault, readModel};
 ghost use Rattle.refusals.specs.Answers.{answerIn};
 ghost use Rattle.layouts.specs.LayoutOf.{LayoutOf};
+ghost use Rattle.model.specs.Walks.{LayoutTold};
 pub use layouts::Layout;
 pub use layouts::Owner;
 pub use layouts::owner_of;
@@ -31,6 +35,41 @@ fn empty_layout() -> Layout {
     }
 }
 
+// The layout stands where all is right.
+pub struct WalkedLayout {
+    pub right: bool,
+    pub layout: Layout,
+}
+
+// One walk over the records, which may only say that all is right; the layout has what the walk found bound.
+fn walk_layout(image: &[u8]) -> WalkedLayout
+    requires { ⌜ (length (now image) % 512 ≡ 0) × (blocksFault (now image) ≡ none) ⌝ }
+    ensures { λ r. ⌜ LayoutTold (now (image .entry)) (r .right) (r .layout) ⌝ }
+{
+    let l = layouts::frame_of(image);
+    let w = model_walk::walk_boxes(image, l);
+    let at = l.at;
+    let sites = l.sites;
+    let lines = l.lines;
+    let bound = w.bound;
+    WalkedLayout {
+        right: w.right,
+        layout: Layout {
+            names: l.names,
+            boxes: l.boxes,
+            at,
+            sites,
+            lines,
+            bound,
+            listed: l.listed,
+            free: l.free,
+            restricted: l.restricted,
+            received: l.received,
+            exposed: l.exposed,
+        },
+    }
+}
+
 // A model image is read: the first refusal in the paper's order, or the layout.
 pub fn read(image: &[u8]) -> ReadResult
     ensures answer { λ r. ⌜ answerIn (r .answer) ≡ readModel (now (image .entry)) ⌝ }
@@ -48,6 +87,14 @@ pub fn read(image: &[u8]) -> ReadResult
         return ReadResult {
             answer: g,
             layout: empty_layout(),
+        };
+    }
+    let w = walk_layout(image);
+    if w.right {
+        let walked = w.layout;
+        return ReadResult {
+            answer: Answer::NoRefusal,
+            layout: walked,
         };
     }
     let l = layouts::layout_of(image);

@@ -1,148 +1,37 @@
 -- Laws of the passes over the whole model. Assumes nothing.
 use mathlib.Core.Path.{_≡_, refl, sym, ap, ap₂, _∙_}
-use mathlib.Core.Bool.{Bool, true, false, not}
+use mathlib.Core.Bool.{Bool, false}
 use mathlib.Core.List.{List}
 use mathlib.Core.Option.{Option, none}
-use Prim.Native.Nat.{ℕ, _+_, _*_, _≤_, _<_}
+use Prim.Native.Nat.{ℕ, _+_, _≤_, _<_}
 use native.Mathlib.Omega.{arith}
-use native.Mathlib.Decide.{decLt}
 use borrow.Author.Needs.{needs}
-use lib.ListN.{length, getD}
-use mir.Syntax.{w64}
-use mir.Val.{Fits}
-use Rattle.definitions.specs.Bounded.{_and_, _or_, _is_, _below_, anyBelow, orElse}
+use lib.ListN.{getD}
+use Rattle.definitions.specs.Bounded.{_or_, _is_, anyBelow, orElse}
 use Rattle.definitions.specs.Sets.{has}
-use Rattle.definitions.specs.Words.{blockOf, countOf}
+use Rattle.definitions.specs.Words.{blockOf}
 use Rattle.definitions.specs.Answer.{Refusal}
-use Rattle.definitions.specs.Model.{Site, Box, Model, siteAt, boxAt, siteCount, lineCount, boxCount, listed, isFree, kindOfName, bindsIn}
-use Rattle.definitions.specs.Image.{siteRecord, nameCount, boxesOf, kindsOf, modelOf}
+use Rattle.definitions.specs.Model.{Site, Box, Model, siteAt, boxAt, siteCount, lineCount, boxCount, bindsIn}
+use Rattle.definitions.specs.Image.{siteRecord, modelOf}
 use Rattle.definitions.specs.ReadModel.{usedBefore, siteFits, boundBefore, reachFits, firstMisfit, blocksFault, modelFault}
-use Rattle.definitions.proofs.Bounded.{is-iff, below-iff, any-cong, true-of, false-of}
+use Rattle.definitions.proofs.Bounded.{any-cong}
 use Rattle.definitions.proofs.Loops.{Passed, passed-start, passed-end}
 use Rattle.definitions.proofs.Faults.{faults}
 use Rattle.definitions.proofs.Sets.{has-none, or-false}
-use Rattle.definitions.proofs.Image.{model-count, model-box, model-names, kind-past}
-use Rattle.definitions.proofs.ReadModel.{Blocks, blocks-iff, lines-most, lines-there, sites-there}
 use Rattle.refusals.specs.declared.Answer.{Answer}
 use Rattle.refusals.specs.declared.Answer.the-variants.{NoRefusal, Refused}
 use Rattle.refusals.specs.declared.Refusal as code
 use Rattle.layouts.specs.declared.Layout.{Layout}
 use Rattle.refusals.specs.Answers.{answerIn}
-use Rattle.records.specs.NameSets.{SetOf, lacks}
-use Rattle.record_rules.specs.Rules.{KindsIn, isFreeOrUnlisted}
-use Rattle.records.specs.Places.{LinesAt, SitesAt}
+use Rattle.records.specs.NameSets.{SetOf}
 use Rattle.box_runs.specs.Runs.{TreesFit, boxMisfit, lineFit, treeFit, subjectIn}
 use Rattle.model_rules.specs.Passes.{sitesMisfit, linesMisfit, treesMisfit, reachMisfit}
-use Rattle.layouts.specs.LayoutOf.{LayoutOf}
+use Rattle.layouts.specs.LayoutOf.{FrameOf, LayoutOf}
+use Rattle.layouts.proofs.FrameLaws.{framed, in-room, in-scale, in-model, past-model, lines-at, sites-at, site-there, site-few, few-kinds, free-in, kinds-in, free-or-unlisted-in}
+use Rattle.layouts.proofs.BoundLaws.{binds-in}
 use Rattle.refusals.proofs.Answers.{passed-on, refused-stop, refused-else, else-more, is-none}
 use Rattle.box_runs.proofs.Runs.{any-more, any-zero}
 use Rattle.records.proofs.PlaceLaws.{site-at, site-count, line-count}
-
-first : (b : Bool) → ((true and b) or not true) ≡ b
-unfolding _and_ _or_
-first true = refl
-first false = refl
-
-second : (b : Bool) → ((false and b) or not false) ≡ true
-unfolding _and_ _or_
-second b = refl
-
--- ---- what a layout says of the model
-
-module _ (image : List ℕ) (l : Layout) (f : blocksFault image ≡ none) (h : LayoutOf image l) where
-  right : Blocks image
-  right = blocks-iff image .0 f
-
-  inside : (b : ℕ) → b < l .boxes → b < boxesOf image
-  inside b q = let z = h .boxes in omega arith
-
-  pub in-room : (b : ℕ) → b < l .boxes → b < 8
-  in-room b q = let z = h .boxes in let k = right .head .boxes in omega arith
-
-  pub in-scale : (b : ℕ) → b < l .boxes → Fits w64 (b * 8)
-  in-scale b q = let z = in-room b q in omega arith
-
-  pub in-model : (b : ℕ) → b < l .boxes → b < boxCount (modelOf image)
-  in-model b q = let z = model-count image in let k = inside b q in omega arith
-
-  pub past-model : (b : ℕ) → l .boxes ≤ b → boxCount (modelOf image) ≤ b
-  past-model b q = let z = model-count image in let k = h .boxes in omega arith
-
-  pub lines-at : (b : ℕ) → b < l .boxes → LinesAt image b (getD (l .at) b 0) (getD (l .lines) b 0)
-  lines-at b q =
-      let k = inside b q in
-      let e = h .at b k in
-      let n = h .lines b k in
-      record {
-        inside = k;
-        at = e;
-        lines = n;
-        there = record {
-          few = (let z = lines-most image right b k in omega arith);
-          there = λ i z. rw e (lines-there image right b k i (omega arith));
-        };
-      }
-
-  pub sites-at : (b : ℕ) → b < l .boxes → SitesAt image b (getD (l .at) b 0) (getD (l .sites) b 0)
-  sites-at b q =
-      let k = inside b q in
-      let e = h .at b k in
-      let n = h .sites b k in
-      record {
-        inside = k;
-        at = e;
-        sites = n ∙ ap (λ (i : ℕ). countOf (blockOf image i)) (sym e);
-        few = (let z = right .box b k .sites .most in omega arith);
-        there = rw e (sites-there image right b k);
-      }
-
-  pub site-there : (b : ℕ) → b < l .boxes → 512 * (getD (l .at) b 0 + 1) ≤ length image
-  site-there b q = sites-at b q .there
-
-  pub site-few : (b : ℕ) → b < l .boxes → getD (l .sites) b 0 ≤ 31
-  site-few b q = let z = sites-at b q .few in omega arith
-
-  -- the kinds of names
-  pub few-kinds : length (modelOf image .kinds) ≤ 60
-  unfolding modelOf
-  few-kinds = let z = model-names image in let k = right .head .names in omega arith
-
-  listed-is : (n : ℕ) → (n below nameCount image) ≡ listed (kindsOf image) n
-  listed-is n = ap (λ (m : ℕ). n below m) (sym (model-names image))
-
-  pub free-in : SetOf (l .free) (isFree (modelOf image .kinds))
-  unfolding modelOf
-  free-in = record { at = λ n q. h .free n q ∙ ap (λ (t : Bool). t and kindOfName (kindsOf image) n is 0) (listed-is n) }
-
-  pub kinds-in : KindsIn (modelOf image .kinds) (l .listed) (l .restricted) (l .received) (l .exposed)
-  unfolding modelOf
-  kinds-in = record {
-    few = (let z = model-names image in let k = right .head .names in omega arith);
-    all = record { at = λ n q. h .listed n q ∙ listed-is n };
-    restricted = record { at = λ n q. h .restricted n q ∙ ap (λ (t : Bool). t and kindOfName (kindsOf image) n is 1) (listed-is n) };
-    received = record { at = λ n q. h .received n q ∙ ap (λ (t : Bool). t and kindOfName (kindsOf image) n is 2) (listed-is n) };
-    exposed = record { at = λ n q. h .exposed n q ∙ ap (λ (t : Bool). t and kindOfName (kindsOf image) n is 3) (listed-is n) };
-  }
-
-  pub free-or-unlisted-in : (o p : ℕ) → SetOf o (lacks (l .listed)) → ((m : ℕ) → has p m ≡ (has (l .free) m or has o m)) → SetOf p (isFreeOrUnlisted (modelOf image .kinds))
-  unfolding modelOf lacks isFreeOrUnlisted
-  free-or-unlisted-in o p s u = record {
-    at = λ n q. u n ∙ ap₂ _or_ (h .free n q) (s .at n q ∙ ap not (h .listed n q)) ∙ pick n (decLt n (nameCount image));
-  }
-    where
-      pick : (n : ℕ) → Dec (n < nameCount image)
-          → ((n below nameCount image and kindOfName (kindsOf image) n is 0) or not (n below nameCount image)) ≡ (kindOfName (kindsOf image) n is 0)
-      pick n (yes z) =
-          ap (λ (t : Bool). (t and kindOfName (kindsOf image) n is 0) or not t) (true-of (n below nameCount image) (below-iff n (nameCount image) .1 z))
-          ∙ first (kindOfName (kindsOf image) n is 0)
-      pick n (no z) =
-          ap (λ (t : Bool). (t and kindOfName (kindsOf image) n is 0) or not t) (false-of (n below nameCount image) (λ t. z (below-iff n (nameCount image) .0 t)))
-          ∙ second (kindOfName (kindsOf image) n is 0) ∙ sym (true-of (kindOfName (kindsOf image) n is 0) (is-iff (kindOfName (kindsOf image) n) 0 .1 (kind-past image n (omega arith))))
-
-  pub binds-in : (b : ℕ) → b < l .boxes → SetOf (getD (l .bound) b 0) (bindsIn (boxAt (modelOf image) b))
-  binds-in b q = record {
-    at = λ n z. h .bound b (inside b q) n z ∙ ap (λ (x : Box). bindsIn x n) (sym (model-box image b (inside b q)));
-  }
 
 -- ---- boxes ascending
 
@@ -188,7 +77,7 @@ six-start image = record {
   used-up = record { at = λ n l. has-none n ∙ sym (ap₂ _or_ (any-zero _) (any-zero _) ∙ or-false false) };
 }
 
-module _ (image : List ℕ) (l : Layout) (b used : ℕ) (a : Answer) (f : blocksFault image ≡ none) (h : LayoutOf image l) (p : SitesPass image b used) (q : b < l .boxes)
+module _ (image : List ℕ) (l : Layout) (b used : ℕ) (a : Answer) (f : blocksFault image ≡ none) (h : FrameOf image l) (p : SitesPass image b used) (q : b < l .boxes)
     (e : answerIn a ≡ boxMisfit 6 (getD (l .sites) b 0) (siteFits (modelOf image)) b) where
   pub six-turn : (s r : ℕ) → a ≡ NoRefusal → SetOf s (subjectIn (blockOf image (getD (l .at) b 0)) (getD (l .sites) b 0))
       → ((m : ℕ) → has r m ≡ (has used m or has s m)) → SitesPass image (b + 1) r
@@ -220,13 +109,13 @@ module _ (image : List ℕ) (l : Layout) (b used : ℕ) (a : Answer) (f : blocks
       boxes-stop 6 (modelOf image) siteCount (siteFits (modelOf image)) b (getD (l .sites) b 0) a (p .boxes-fit) (in-model image l f h b q)
       (site-count image b (getD (l .at) b 0) (getD (l .sites) b 0) (sites-at image l f h b q)) e x z
 
-pub six-end : (image : List ℕ) (l : Layout) (b used : ℕ) → blocksFault image ≡ none → LayoutOf image l → SitesPass image b used → l .boxes ≤ b → none ≡ sitesMisfit (modelOf image)
+pub six-end : (image : List ℕ) (l : Layout) (b used : ℕ) → blocksFault image ≡ none → FrameOf image l → SitesPass image b used → l .boxes ≤ b → none ≡ sitesMisfit (modelOf image)
 unfolding sitesMisfit
 six-end image l b used f h p q = boxes-end 6 (modelOf image) siteCount (siteFits (modelOf image)) b (p .boxes-fit) (past-model image l f h b q)
 
 -- ---- 7 and 8
 
-module _ (image : List ℕ) (l : Layout) (b : ℕ) (a : Answer) (f : blocksFault image ≡ none) (h : LayoutOf image l) (q : b < l .boxes) where
+module _ (image : List ℕ) (l : Layout) (b : ℕ) (a : Answer) (f : blocksFault image ≡ none) (h : FrameOf image l) (q : b < l .boxes) where
   lines-counted : getD (l .lines) b 0 ≡ lineCount (boxAt (modelOf image) b)
   lines-counted = line-count image b (getD (l .at) b 0) (getD (l .lines) b 0) (lines-at image l f h b q)
 
@@ -236,7 +125,7 @@ pub record LinesPass (image : List ℕ) (b : ℕ) : Type 0 where
 pub seven-start : (image : List ℕ) → LinesPass image 0
 seven-start image = record { boxes-fit = boxes-start 7 (modelOf image) lineCount (lineFit (modelOf image)) }
 
-module _ (image : List ℕ) (l : Layout) (b : ℕ) (a : Answer) (f : blocksFault image ≡ none) (h : LayoutOf image l) (p : LinesPass image b) (q : b < l .boxes)
+module _ (image : List ℕ) (l : Layout) (b : ℕ) (a : Answer) (f : blocksFault image ≡ none) (h : FrameOf image l) (p : LinesPass image b) (q : b < l .boxes)
     (e : answerIn a ≡ boxMisfit 7 (getD (l .lines) b 0) (lineFit (modelOf image)) b) where
   pub seven-turn : a ≡ NoRefusal → LinesPass image (b + 1)
   seven-turn z = record {
@@ -248,7 +137,7 @@ module _ (image : List ℕ) (l : Layout) (b : ℕ) (a : Answer) (f : blocksFault
   seven-stop x z =
       boxes-stop 7 (modelOf image) lineCount (lineFit (modelOf image)) b (getD (l .lines) b 0) a (p .boxes-fit) (in-model image l f h b q) (lines-counted image l b a f h q) e x z
 
-pub seven-end : (image : List ℕ) (l : Layout) (b : ℕ) → blocksFault image ≡ none → LayoutOf image l → LinesPass image b → l .boxes ≤ b → none ≡ linesMisfit (modelOf image)
+pub seven-end : (image : List ℕ) (l : Layout) (b : ℕ) → blocksFault image ≡ none → FrameOf image l → LinesPass image b → l .boxes ≤ b → none ≡ linesMisfit (modelOf image)
 unfolding linesMisfit
 seven-end image l b f h p q = boxes-end 7 (modelOf image) lineCount (lineFit (modelOf image)) b (p .boxes-fit) (past-model image l f h b q)
 
@@ -258,7 +147,7 @@ pub record TreesPass (image : List ℕ) (b : ℕ) : Type 0 where
 pub eight-start : (image : List ℕ) → TreesPass image 0
 eight-start image = record { boxes-fit = boxes-start 8 (modelOf image) lineCount (treeFit (modelOf image)) }
 
-module _ (image : List ℕ) (l : Layout) (b : ℕ) (a : Answer) (f : blocksFault image ≡ none) (h : LayoutOf image l) (p : TreesPass image b) (q : b < l .boxes)
+module _ (image : List ℕ) (l : Layout) (b : ℕ) (a : Answer) (f : blocksFault image ≡ none) (h : FrameOf image l) (p : TreesPass image b) (q : b < l .boxes)
     (e : answerIn a ≡ boxMisfit 8 (getD (l .lines) b 0) (treeFit (modelOf image)) b) where
   pub eight-turn : a ≡ NoRefusal → TreesPass image (b + 1)
   eight-turn z = record {
@@ -270,7 +159,7 @@ module _ (image : List ℕ) (l : Layout) (b : ℕ) (a : Answer) (f : blocksFault
   eight-stop x z =
       boxes-stop 8 (modelOf image) lineCount (treeFit (modelOf image)) b (getD (l .lines) b 0) a (p .boxes-fit) (in-model image l f h b q) (lines-counted image l b a f h q) e x z
 
-pub eight-end : (image : List ℕ) (l : Layout) (b : ℕ) → blocksFault image ≡ none → LayoutOf image l → TreesPass image b → l .boxes ≤ b → none ≡ treesMisfit (modelOf image)
+pub eight-end : (image : List ℕ) (l : Layout) (b : ℕ) → blocksFault image ≡ none → FrameOf image l → TreesPass image b → l .boxes ≤ b → none ≡ treesMisfit (modelOf image)
 unfolding treesMisfit
 eight-end image l b f h p q = boxes-end 8 (modelOf image) lineCount (treeFit (modelOf image)) b (p .boxes-fit) (past-model image l f h b q)
 
@@ -290,7 +179,7 @@ nine-start image = record {
   bound-up = record { at = λ n l. has-none n ∙ sym (ap₂ _or_ (any-zero _) (any-zero _) ∙ or-false false) };
 }
 
-pub trees-fit : (image : List ℕ) (l : Layout) (b : ℕ) → blocksFault image ≡ none → LayoutOf image l → treesMisfit (modelOf image) ≡ none → b < l .boxes
+pub trees-fit : (image : List ℕ) (l : Layout) (b : ℕ) → blocksFault image ≡ none → FrameOf image l → treesMisfit (modelOf image) ≡ none → b < l .boxes
     → TreesFit image b (getD (l .lines) b 0)
 unfolding treesMisfit firstMisfit
 trees-fit image l b f h t q =
@@ -304,7 +193,7 @@ module _ (image : List ℕ) (l : Layout) (b bound : ℕ) (a : Answer) (f : block
   nine-turn r z u =
       let m = modelOf image in
       record {
-        boxes-fit = boxes-turn 9 m lineCount (reachFits m) b (getD (l .lines) b 0) a (p .boxes-fit) (in-model image l f h b q) (lines-counted image l b a f h q) e z;
+        boxes-fit = boxes-turn 9 m lineCount (reachFits m) b (getD (l .lines) b 0) a (p .boxes-fit) (in-model image l f (h .frame) b q) (lines-counted image l b a f (h .frame) q) e z;
         bound-up = record {
           at = λ x g.
               let box : ℕ → Bool = λ c. bindsIn (boxAt m c) x in
@@ -317,9 +206,9 @@ module _ (image : List ℕ) (l : Layout) (b bound : ℕ) (a : Answer) (f : block
   pub nine-stop : (x : code.Refusal) → a ≡ Refused x → answerIn a ≡ reachMisfit (modelOf image)
   unfolding reachMisfit
   nine-stop x z =
-      boxes-stop 9 (modelOf image) lineCount (reachFits (modelOf image)) b (getD (l .lines) b 0) a (p .boxes-fit) (in-model image l f h b q) (lines-counted image l b a f h q) e x z
+      boxes-stop 9 (modelOf image) lineCount (reachFits (modelOf image)) b (getD (l .lines) b 0) a (p .boxes-fit) (in-model image l f (h .frame) b q) (lines-counted image l b a f (h .frame) q) e x z
 
-pub nine-end : (image : List ℕ) (l : Layout) (b bound : ℕ) → blocksFault image ≡ none → LayoutOf image l → ReachPass image b bound → l .boxes ≤ b → none ≡ reachMisfit (modelOf image)
+pub nine-end : (image : List ℕ) (l : Layout) (b bound : ℕ) → blocksFault image ≡ none → FrameOf image l → ReachPass image b bound → l .boxes ≤ b → none ≡ reachMisfit (modelOf image)
 unfolding reachMisfit
 nine-end image l b bound f h p q = boxes-end 9 (modelOf image) lineCount (reachFits (modelOf image)) b (p .boxes-fit) (past-model image l f h b q)
 
@@ -350,4 +239,4 @@ module _ (m : Model) where
 pub trees-none : (m : Model) (a : Answer) → answerIn a ≡ treesMisfit m → a ≡ NoRefusal → treesMisfit m ≡ none
 trees-none m a e q = is-none (treesMisfit m) a e q
 
-pub ruleset passes = (needs, in-room, in-scale, site-there, site-few, lines-at, sites-at, few-kinds, free-in, kinds-in, free-or-unlisted-in, used-none, six-start, six-turn, six-stop, six-end, seven-start, seven-turn, seven-stop, seven-end, eight-start, eight-turn, eight-stop, eight-end, bound-none, nine-start, trees-fit, nine-turn, nine-stop, nine-end, model-six, model-seven, model-eight, model-nine, trees-none)
+pub ruleset passes = (needs, framed, in-room, in-scale, site-there, site-few, lines-at, sites-at, few-kinds, free-in, kinds-in, free-or-unlisted-in, used-none, six-start, six-turn, six-stop, six-end, seven-start, seven-turn, seven-stop, seven-end, eight-start, eight-turn, eight-stop, eight-end, bound-none, nine-start, trees-fit, nine-turn, nine-stop, nine-end, model-six, model-seven, model-eight, model-nine, trees-none)

@@ -1,18 +1,18 @@
 -- What the packed answers are, case by case. Assumes nothing.
 use mathlib.Core.Path.{_≡_, ap, sym, _∙_}
+use mathlib.Core.Logic.{_≢_}
 use mathlib.Core.Bool.{Bool, true, false}
-use mathlib.Core.List.{List}
-use Prim.Native.Nat.{ℕ, _+_, _*_, _≤_, _<_}
+use Prim.Native.Nat.{ℕ, _≤_, _<_}
 use native.Mathlib.Omega.{arith}
 use borrow.Author.Needs.{needs}
-use lib.ListN.{length}
-use Rattle.definitions.specs.Bounded.{_and_, _below_, _upto_}
-use Rattle.definitions.proofs.Bounded.{true-of, false-of, of-true, not-false, and-iff, below-iff, upto-iff}
+use Rattle.definitions.specs.Bounded.{_is_, _below_}
+use Rattle.definitions.specs.Clauses as clauses
+use Rattle.definitions.proofs.Bounded.{true-of, false-of, is-iff, below-iff}
 use Rattle.refusals.specs.declared.Refusal.{Refusal}
 use Rattle.refusals.specs.declared.Answer.{Answer}
 use Rattle.refusals.specs.declared.Answer.the-variants.{NoRefusal, Refused}
 use Rattle.refusals.specs.Answers.{answerIn}
-use Rattle.first_broken.specs.declared.Broken.{Broken}
+use Rattle.record_clauses.specs.declared.Broken.{Broken}
 use Rattle.analysis.specs.declared.Verdict.{Verdict}
 use Rattle.analysis.specs.declared.Verdict.the-variants.{Accepted, Breaks, RefusedModel, RefusedEstimate}
 use Rattle.analysis.specs.declared.Reply.{Reply}
@@ -73,46 +73,30 @@ unfolding packCall
 of-refused a x t n q e p =
     p ∙ ap (λ (k : ℕ). pack k (x .number) (x .place) (x .second)) e ∙ ap (λ (y : Answer). packCall (answerIn y)) (sym q)
 
--- a refused block
-module _ (tag n k r : ℕ) (image : List ℕ) where
-  abbrev test : Bool
-  test = 2 upto n and n upto 5 and 512 * (k + 1) upto length image
+-- a refused block of n bytes
+by-zero : (v : clauses.Verdict) (n r : ℕ) (b : Bool) → (n is 0) ≡ b → r ≡ elim b as (λ _. ℕ) [ true ↦ noPart | false ↦ packBlock v n ] → r ≡ packPart v n
+unfolding packPart
+by-zero v n r b e q = q ∙ sym (ap (λ (c : Bool). elim c as (λ _. ℕ) [ true ↦ noPart | false ↦ packBlock v n ]) e)
 
-  by : (x : Bool) → test ≡ x → packBlock tag image n k ≡ elim x [ true ↦ pack tag n k 512 | false ↦ noPart ]
-  unfolding packBlock
-  by x e = ap (λ (y : Bool). elim y as (λ _. ℕ) [ true ↦ pack tag n k 512 | false ↦ noPart ]) e
+module _ (v : Verdict) (n r : ℕ) where
+  pub part-none : n ≡ 0 → r ≡ noPart → r ≡ packPart (verdictIn v) n
+  part-none z q = by-zero (verdictIn v) n r true (true-of (n is 0) (is-iff n 0 .1 z)) q
 
-  pub block-below : n < 2 → r ≡ noPart → r ≡ packBlock tag image n k
-  block-below h q =
-      q ∙ sym (by false (false-of test (λ t. let l = upto-iff 2 n .0 (and-iff (2 upto n) (n upto 5) .0 (and-iff (2 upto n and n upto 5) _ .0 t .0) .0) in absurd (omega arith))))
+  module _ (z : n ≢ 0) where
+    part-as : (w : Verdict) → v ≡ w → r ≡ packBlock (verdictIn w) n → r ≡ packPart (verdictIn v) n
+    part-as w e q =
+        by-zero (verdictIn v) n r false (false-of (n is 0) (λ t. z (is-iff n 0 .0 t))) (q ∙ sym (ap (λ (y : Verdict). packBlock (verdictIn y) n) e))
 
-  pub block-above : 5 < n → r ≡ noPart → r ≡ packBlock tag image n k
-  block-above h q =
-      q ∙ sym (by false (false-of test (λ t. let l = upto-iff n 5 .0 (and-iff (2 upto n) (n upto 5) .0 (and-iff (2 upto n and n upto 5) _ .0 t .0) .1) in absurd (omega arith))))
+    pub part-accepted : v ≡ Accepted → r ≡ noPart → r ≡ packPart (verdictIn v) n
+    part-accepted e q = part-as Accepted e q
 
-  module _ (b : Bool) (there : b ≡ (512 * (k + 1) upto length image)) where
-    pub block-there : 2 ≤ n → n ≤ 5 → b ≡ true → r ≡ pack tag n k 512 → r ≡ packBlock tag image n k
-    block-there l h t q =
-        q ∙ sym (by true (true-of test (and-iff (2 upto n and n upto 5) _ .1 (and-iff (2 upto n) (n upto 5) .1 (upto-iff 2 n .1 l, upto-iff n 5 .1 h), of-true (sym there ∙ t)))))
+    pub part-breaks : (x : Broken) → v ≡ Breaks x → r ≡ noPart → r ≡ packPart (verdictIn v) n
+    part-breaks x e q = part-as (Breaks x) e q
 
-    pub block-missing : b ≡ false → r ≡ noPart → r ≡ packBlock tag image n k
-    block-missing f q = q ∙ sym (by false (false-of test (λ t. not-false (sym there ∙ f) (and-iff (2 upto n and n upto 5) _ .0 t .1))))
+    pub part-model : (x : Refusal) → v ≡ RefusedModel x → r ≡ pack 2 (x .number) (x .place) n → r ≡ packPart (verdictIn v) n
+    part-model x e q = part-as (RefusedModel x) e q
 
-module _ (model estimate : List ℕ) (v : Verdict) (r : ℕ) where
-  pub part-accepted : v ≡ Accepted → r ≡ noPart → r ≡ packPart model estimate (verdictIn v)
-  unfolding packPart
-  part-accepted q e = e ∙ sym (ap (λ (w : Verdict). packPart model estimate (verdictIn w)) q)
+    pub part-estimate : (x : Refusal) → v ≡ RefusedEstimate x → r ≡ pack 3 (x .number) (x .place) n → r ≡ packPart (verdictIn v) n
+    part-estimate x e q = part-as (RefusedEstimate x) e q
 
-  pub part-breaks : (x : Broken) → v ≡ Breaks x → r ≡ noPart → r ≡ packPart model estimate (verdictIn v)
-  unfolding packPart
-  part-breaks x q e = e ∙ sym (ap (λ (w : Verdict). packPart model estimate (verdictIn w)) q)
-
-  pub part-model : (x : Refusal) → v ≡ RefusedModel x → r ≡ packBlock 2 model (x .number) (x .place) → r ≡ packPart model estimate (verdictIn v)
-  unfolding packPart
-  part-model x q e = e ∙ sym (ap (λ (w : Verdict). packPart model estimate (verdictIn w)) q)
-
-  pub part-estimate : (x : Refusal) → v ≡ RefusedEstimate x → r ≡ packBlock 3 estimate (x .number) (x .place) → r ≡ packPart model estimate (verdictIn v)
-  unfolding packPart
-  part-estimate x q e = e ∙ sym (ap (λ (w : Verdict). packPart model estimate (verdictIn w)) q)
-
-pub ruleset packs = (needs, of-accepted, of-nobody, of-yes, of-no, tag-model, tag-own, of-done, of-refused, block-below, block-above, block-there, block-missing, part-accepted, part-breaks, part-model, part-estimate)
+pub ruleset packs = (needs, of-accepted, of-nobody, of-yes, of-no, tag-model, tag-own, of-done, of-refused, part-none, part-accepted, part-breaks, part-model, part-estimate)

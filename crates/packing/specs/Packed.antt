@@ -1,10 +1,8 @@
 -- The answers of the exported calls as one number. Assumes nothing.
 use mathlib.Core.Bool.{true, false}
-use mathlib.Core.List.{List}
 use mathlib.Core.Option.{Option, none, some}
 use Prim.Native.Nat.{ℕ, _+_, _*_, _%_}
-use lib.ListN.{length}
-use Rattle.definitions.specs.Bounded.{_and_, _below_, _upto_}
+use Rattle.definitions.specs.Bounded.{_is_, _below_}
 use Rattle.definitions.specs.Answer.{Refusal}
 use Rattle.definitions.specs.Clauses.{Verdict, accepted, breaks, refusedModel, refusedEstimate}
 use Rattle.definitions.specs.ShutOff.{Reply, notAccepted, nobody, isShutOff}
@@ -36,15 +34,15 @@ packReply (nobody r) = pack 6 (r .number) (r .place) (r .second)
 packReply (isShutOff true) = 4
 packReply (isShutOff false) = 5
 
--- where the refused block stands: 2 the model, 3 the estimate; the refusal's number, the block, and how many bytes. No block: the model, and 0 bytes
+-- where a refused block of n bytes stands: 2 the model, 3 the estimate; the refusal's number, the block, and n. No block: the model, and 0 bytes
 abbrev pub noPart : ℕ
 noPart = pack 2 0 0 0
 
-unfoldable pub packBlock : ℕ → List ℕ → ℕ → ℕ → ℕ
-packBlock tag image n k = elim (2 upto n and n upto 5 and 512 * (k + 1) upto length image) [ true ↦ pack tag n k 512 | false ↦ noPart ]
+abbrev pub packBlock : Verdict → ℕ → ℕ
+packBlock accepted n = noPart
+packBlock (breaks b) n = noPart
+packBlock (refusedModel r) n = pack 2 (r .number) (r .place) n
+packBlock (refusedEstimate r) n = pack 3 (r .number) (r .place) n
 
-unfoldable pub packPart : List ℕ → List ℕ → Verdict → ℕ
-packPart model estimate accepted = noPart
-packPart model estimate (breaks b) = noPart
-packPart model estimate (refusedModel r) = packBlock 2 model (r .number) (r .place)
-packPart model estimate (refusedEstimate r) = packBlock 3 estimate (r .number) (r .place)
+unfoldable pub packPart : Verdict → ℕ → ℕ
+packPart v n = elim (n is 0) [ true ↦ noPart | false ↦ packBlock v n ]

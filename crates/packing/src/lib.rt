@@ -2,7 +2,7 @@
 ghost use mathlib.Core.Path.{_≡_};
 ghost use Rattle.refusals.specs.Answers.{answerIn};
 ghost use Rattle.analysis.specs.Answers.{verdictIn, replyIn};
-ghost use Rattle.packing.specs.Packed.{pack, packVerdict, packReply, callTag, packCall, noPart, packBlock, packPart};
+ghost use Rattle.packing.specs.Packed.{pack, packVerdict, packReply, callTag, packCall, packPart};
 use analysis::Reply;
 use analysis::Verdict;
 use refusals::Answer;
@@ -53,31 +53,17 @@ pub fn of_call(a: Answer) -> u64
     }
 }
 
-// A refused block, by the refusal's number and block. Only 2 to 5 have one.
-fn of_block(tag: u8, image: &[u8], n: u8, k: usize) -> u64
-    ensures { λ r. ⌜ r ≡ packBlock tag (now (image .entry)) n k ⌝ }
+// Where a refused block of n bytes stands, by the verdict. No block has 0 bytes.
+pub fn of_part(v: Verdict, n: usize) -> u64
+    ensures { λ r. ⌜ r ≡ packPart (verdictIn v) n ⌝ }
 {
-    if n < 2 {
+    if n == 0 {
         return packed(2, 0, 0, 0);
     }
-    if 5 < n {
-        return packed(2, 0, 0, 0);
-    }
-    if blocks::has_block(image, k) {
-        packed(tag, n, k, 512)
-    } else {
-        packed(2, 0, 0, 0)
-    }
-}
-
-// Where the refused block stands, by the verdict.
-pub fn of_part(model: &[u8], estimate: &[u8], v: Verdict) -> u64
-    ensures { λ r. ⌜ r ≡ packPart (now (model .entry)) (now (estimate .entry)) (verdictIn v) ⌝ }
-{
     match v {
         Verdict::Accepted => packed(2, 0, 0, 0),
         Verdict::Breaks(_) => packed(2, 0, 0, 0),
-        Verdict::RefusedModel(r) => of_block(2, model, r.number, r.place),
-        Verdict::RefusedEstimate(r) => of_block(3, estimate, r.number, r.place),
+        Verdict::RefusedModel(r) => packed(2, r.number, r.place, n),
+        Verdict::RefusedEstimate(r) => packed(3, r.number, r.place, n),
     }
 }

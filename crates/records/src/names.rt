@@ -11,7 +11,7 @@ use bools::either;
 use sets::NameNo;
 
 // s, with its binary digit n set to 1 where a test is met.
-pub fn set_digit_if(s: u64, n: u8, yes: bool) -> u64
+fn set_digit_if(s: u64, n: u8, yes: bool) -> u64
     ensures { λ r. ⌜ SetOf r (insertIf s yes n) ⌝ }
 {
     if yes { sets::set_digit(s, n) } else { s }

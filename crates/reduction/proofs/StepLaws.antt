@@ -14,18 +14,17 @@ use Rattle.definitions.specs.Image.{modelOf}
 use Rattle.definitions.specs.ReadModel.{readModel}
 use Rattle.definitions.specs.StateRules.{stateFits}
 use Rattle.definitions.specs.Moves.{Outcome, refused, made, act}
-use Rattle.definitions.specs.Calls.{StepResult, written, outcomeNumber, outcomeWords, outcomeRefusal, stateRefusal, step}
-use Rattle.definitions.proofs.Bounded.{else-assoc, left-none, right-none, isnt-iff, true-of}
-use Rattle.definitions.proofs.Faults.{passed-iff}
+use Rattle.definitions.specs.Calls.{written, outcomeNumber, outcomeWords, outcomeRefusal, movesRefusal, stateRefusal, step}
+use Rattle.definitions.proofs.Bounded.{else-assoc, isnt-iff, true-of}
+use Rattle.definitions.proofs.Calls.{moves-iff}
 use Rattle.refusals.specs.declared.Refusal as code
 use Rattle.refusals.specs.declared.Answer.{Answer}
 use Rattle.refusals.specs.declared.Answer.the-variants.{NoRefusal, Refused}
 use Rattle.refusals.specs.Answers.{answerIn}
-use Rattle.refusals.proofs.Answers.{no-refusal, is-none, refused-else, first-none, second-none}
+use Rattle.refusals.proofs.Answers.{no-refusal, is-none, refused-else, first-none}
 use Rattle.lookups.specs.Ready.{PlacesOf, Ready}
 use Rattle.deciding.specs.Numbers.{moveOf}
 use Rattle.turns.proofs.Acts.{never-zero}
-use Rattle.reduction.specs.Refusals.{refusalOf}
 
 -- ---- the refusals before a first move: a is the model's answer, c that of the lengths, and r the first of both
 
@@ -34,11 +33,11 @@ module _ (image words : List ℕ) (wrong : Bool) (a c r : Answer) (ea : answerIn
   third : Option Refusal
   third = someIf (not (stateFits (modelOf image) words)) (unplaced 11)
 
-  joined : orElse (orElse (readModel image) (someIf wrong (unplaced 10))) third ≡ refusalOf image words wrong
-  unfolding refusalOf third
+  joined : orElse (orElse (readModel image) (someIf wrong (unplaced 10))) third ≡ movesRefusal image words wrong
+  unfolding movesRefusal third
   joined = else-assoc (readModel image) (someIf wrong (unplaced 10)) third
 
-  pub refused-early : (x : code.Refusal) → r ≡ Refused x → answerIn r ≡ refusalOf image words wrong
+  pub refused-early : (x : code.Refusal) → r ≡ Refused x → answerIn r ≡ movesRefusal image words wrong
   refused-early x q =
       refused-else (orElse (readModel image) (someIf wrong (unplaced 10))) third r x (er ∙ ap₂ orElse ea ec) q ∙ joined
 
@@ -50,36 +49,28 @@ module _ (image words : List ℕ) (wrong : Bool) (a c r : Answer) (ea : answerIn
     early-model = first-none a c r er q
 
     pub refused-last : (f : Bool) (d : Answer) → f ≡ stateFits (modelOf image) words → answerIn d ≡ someIf (not f) (refusal 11 0 0)
-        → answerIn d ≡ refusalOf image words wrong
+        → answerIn d ≡ movesRefusal image words wrong
     unfolding third
     refused-last f d e g =
         g ∙ ap (λ (t : Bool). someIf (not t) (refusal 11 0 0)) e
         ∙ ap (λ (o : Option Refusal). orElse o third) (no-refusal _ r (er ∙ ap₂ orElse ea ec) q) ∙ joined
 
 -- no refusal: the model is read, and the words obey the state rules
-module _ (image words : List ℕ) (wrong : Bool) (r : Answer) (e : answerIn r ≡ refusalOf image words wrong) (q : r ≡ NoRefusal) where
-  passes : refusalOf image words wrong ≡ none
-  passes = is-none (refusalOf image words wrong) r e q
+module _ (image words : List ℕ) (wrong : Bool) (r : Answer) (e : answerIn r ≡ movesRefusal image words wrong) (q : r ≡ NoRefusal) where
+  passes : movesRefusal image words wrong ≡ none
+  passes = is-none (movesRefusal image words wrong) r e q
 
   pub unrefused-read : readModel image ≡ none
-  unfolding refusalOf
-  unrefused-read = left-none (readModel image) _ passes
+  unrefused-read = moves-iff image words wrong .0 passes .0
 
   pub unrefused-ready : (places : ℕ) → PlacesOf image places → Ready image places words
-  unfolding refusalOf
-  unrefused-ready places p = record {
-    read = unrefused-read;
-    placed = p;
-    fits =
-        passed-iff (stateFits (modelOf image) words) (unplaced 11) .0
-        (right-none (someIf wrong (unplaced 10)) _ (right-none (readModel image) _ passes));
-  }
+  unrefused-ready places p = record { read = unrefused-read; placed = p; fits = moves-iff image words wrong .0 passes .1 .1 }
 
 -- ---- one move
 
-module _ (image words : List ℕ) (kind b t c u : ℕ) (r : Answer) (e : answerIn r ≡ refusalOf image words (not (eqb (length words) 9112))) where
+module _ (image words : List ℕ) (kind b t c u : ℕ) (r : Answer) (e : answerIn r ≡ movesRefusal image words (not (eqb (length words) 9112))) where
   same-refusal : answerIn r ≡ stateRefusal image words
-  unfolding refusalOf stateRefusal _isnt_
+  unfolding stateRefusal _isnt_
   same-refusal = e
 
   pub step-refused : (x : code.Refusal) → r ≡ Refused x → answerIn r ≡ step image words (moveOf kind b t c u) .answer

@@ -3,12 +3,11 @@ ghost use mathlib.Core.Path.{_≡_};
 ghost use Rattle.definitions.specs.Calls as calls;
 ghost use Rattle.refusals.specs.Answers.{answerIn};
 ghost use Rattle.deciding.specs.Numbers.{moveOf};
-ghost use Rattle.reduction.specs.Refusals.{refusalOf};
 use refusals::Answer;
 
 // The refusal of the model, then 10 where a lent list has the wrong length, then 11 where the words do not obey the state rules.
 pub fn refusal(model: &[u8], state: &[u32], wrong: bool) -> Answer
-    ensures { λ r. ⌜ answerIn r ≡ refusalOf (now (model .entry)) (now (state .entry)) wrong ⌝ }
+    ensures { λ r. ⌜ answerIn r ≡ calls.movesRefusal (now (model .entry)) (now (state .entry)) wrong ⌝ }
 {
     let read = model::read(model);
     let refused = read.answer;

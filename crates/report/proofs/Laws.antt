@@ -6,7 +6,7 @@ use native.Mathlib.Omega.{arith}
 use lib.ListN.{length}
 use Rattle.definitions.specs.Program.{bytesOf, decimalIn, threeNumbers, verdictLine}
 use Rattle.refusals.specs.declared.Refusal.{Refusal}
-use Rattle.first_broken.specs.declared.Broken.{Broken}
+use Rattle.record_clauses.specs.declared.Broken.{Broken}
 use Rattle.analysis.specs.declared.Verdict.{Verdict}
 use Rattle.analysis.specs.declared.Verdict.the-variants.{Accepted, Breaks, RefusedModel, RefusedEstimate}
 use Rattle.analysis.specs.Answers.{verdictIn}

@@ -1,27 +1,20 @@
 -- The moves of a list by an index, as the loop makes them, are the definition's run. Assumes nothing.
 use mathlib.Core.Path.{_≡_, refl, sym, ap, ap₂, _∙_}
-use mathlib.Core.Bool.{Bool}
 use mathlib.Core.List.{List, [], _∷_}
-use mathlib.Core.Logic.{inr}
 use mathlib.Core.Option.{Option, none, some}
 use mathlib.Core.WellFounded.{WellFounded, InvImage·wf}
-use Prim.Native.Nat.{ℕ, zero, suc, _+_, _-_, _<_, _≤_, zero-le}
-use native.Mathlib.Nat.{le-refl}
+use Prim.Native.Nat.{ℕ, zero, suc, _+_, _-_, _<_, _≤_}
 use native.Mathlib.Omega.{arith}
-use native.Mathlib.Decide.{ℕ-discrete}
 use lib.WfN.{Nat·lt-wfRel}
-use lib.Dec.{T}
-use lib.ListN.{length, getD, set, length-set, length-map}
-use Rattle.definitions.specs.Bounded.{_or_, _isnt_, someIf, orElse}
-use Rattle.definitions.specs.Answer.{Refusal, unplaced}
+use lib.ListN.{length, getD, set, length-map}
+use Rattle.definitions.specs.Bounded.{_or_, _isnt_}
+use Rattle.definitions.specs.Answer.{Refusal}
 use Rattle.definitions.specs.Image.{modelOf}
-use Rattle.definitions.specs.ReadModel.{readModel}
 use Rattle.definitions.specs.Moves as moves
-use Rattle.definitions.specs.Calls.{outcomeNumber, outcomeWords, written, actAll, runRefusal, run}
-use Rattle.definitions.proofs.Bounded.{left-none, right-none, fault-none, or-iff, isnt-iff}
+use Rattle.definitions.specs.Calls.{outcomeNumber, outcomeWords, written, actAll, movesRefusal, runRefusal, run}
+use Rattle.definitions.proofs.Calls.{run-iff}
 use Rattle.refusals.specs.Answers.{answerIn}
 use Rattle.lookups.specs.Ready.{Ready}
-use Rattle.reduction.specs.Refusals.{refusalOf}
 use Rattle.runs.specs.declared.Move.{Move}
 use Rattle.runs.specs.declared.Begun.{Begun}
 use Rattle.runs.specs.Begins.{moveIn, movesIn, unlessRefused, Begins}
@@ -78,12 +71,12 @@ module _ (image : List ℕ) where
       pub s-is : stateFrom ms (r .count) 0 s₀ ≡ run image s₀ (movesIn ms) rs₀ .words
       pub rs-is : answersFrom ms (r .count) 0 s₀ rs₀ ≡ run image s₀ (movesIn ms) rs₀ .answers
 
-    same-refusal : refusalOf image s₀ (length s₀ isnt 9112 or length rs₀ isnt length ms) ≡ runRefusal image s₀ (movesIn ms) rs₀
-    unfolding refusalOf runRefusal
-    same-refusal = ap (λ (n : ℕ). refusalOf image s₀ (length s₀ isnt 9112 or length rs₀ isnt n)) (sym (length-map ms moveIn))
+    same-refusal : movesRefusal image s₀ (length s₀ isnt 9112 or length rs₀ isnt length ms) ≡ runRefusal image s₀ (movesIn ms) rs₀
+    unfolding runRefusal
+    same-refusal = ap (λ (n : ℕ). movesRefusal image s₀ (length s₀ isnt 9112 or length rs₀ isnt n)) (sym (length-map ms moveIn))
 
     pub planned : (r : Begun) → Begins image s₀ (length ms) (length rs₀) r → Planned r
-    unfolding run refusalOf
+    unfolding run
     planned r b = go (answerIn (r .answer)) refl
       where
         go : (o : Option Refusal) → answerIn (r .answer) ≡ o → Planned r
@@ -105,8 +98,7 @@ module _ (image : List ℕ) where
         go none e =
             let all-moves : r .count ≡ length ms = b .count ∙ ap (λ (q : Option Refusal). unlessRefused q (length ms)) e in
             let is : runRefusal image s₀ (movesIn ms) rs₀ ≡ none = sym same-refusal ∙ sym (b .answer) ∙ e in
-            let short = left-none (someIf (length s₀ isnt 9112 or length rs₀ isnt length ms) (unplaced 10)) _ (right-none (readModel image) _ (sym (b .answer) ∙ e)) in
-            let same : length rs₀ ≡ length ms = as-long (fault-none (length s₀ isnt 9112 or length rs₀ isnt length ms) (unplaced 10) short) in
+            let same : length rs₀ ≡ length ms = run-iff image s₀ (movesIn ms) rs₀ .0 is .1 .0 .1 ∙ length-map ms moveIn in
             record {
               answer = b .answer ∙ same-refusal;
               moves = omega arith;
@@ -119,14 +111,6 @@ module _ (image : List ℕ) where
                   ap (λ (n : ℕ). answersFrom ms n 0 s₀ rs₀) all-moves ∙ answers-is ms s₀ rs₀ same
                   ∙ ap (λ (q : Option Refusal). written q (actAll (modelOf image) s₀ (movesIn ms) .answers) rs₀) (sym is);
             }
-          where
-            pick : (T (length s₀ isnt 9112 or length rs₀ isnt length ms) → ⊥) → Dec (length rs₀ ≡ length ms) → length rs₀ ≡ length ms
-            pick f (yes q) = q
-            pick f (no q) =
-                absurd (f (or-iff (length s₀ isnt 9112) (length rs₀ isnt length ms) .1 (inr (isnt-iff (length rs₀) (length ms) .1 q))))
-
-            as-long : (T (length s₀ isnt 9112 or length rs₀ isnt length ms) → ⊥) → length rs₀ ≡ length ms
-            as-long f = pick f (ℕ-discrete (length rs₀) (length ms))
 
     -- ---- the loop's turns, of a run whose tests gave r
 

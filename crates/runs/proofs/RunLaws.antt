@@ -1,6 +1,6 @@
 -- The tests of a run, and a move stored with its answer. Assumes nothing.
 use mathlib.Core.Path.{_≡_, refl, sym, ap, ap₂, subst, _∙_}
-use mathlib.Core.Bool.{Bool, not, _||_}
+use mathlib.Core.Bool.{not, _||_}
 use mathlib.Core.List.{List}
 use Prim.Native.Nat.{ℕ, _+_, _-_, _*_, _/_, _<_, _≤_}
 use native.Mathlib.Omega.{arith}
@@ -12,9 +12,9 @@ use Rattle.definitions.specs.Bounded.{_or_, _isnt_}
 use Rattle.definitions.specs.Image.{modelOf}
 use Rattle.definitions.specs.Moves as moves
 use Rattle.definitions.specs.Moves.{act}
-use Rattle.definitions.specs.Calls.{outcomeNumber, outcomeWords, run}
+use Rattle.definitions.specs.Calls.{outcomeNumber, outcomeWords, movesRefusal, run}
 use Rattle.definitions.proofs.Bounded.{or-is, length-tabulate, getD-tabulate}
-use Rattle.definitions.proofs.StateRules.{StateFits, state-iff}
+use Rattle.definitions.proofs.StateRules.{state-iff}
 use Rattle.refusals.specs.declared.Refusal as code
 use Rattle.refusals.specs.declared.Answer.{Answer}
 use Rattle.refusals.specs.declared.Answer.the-variants.{NoRefusal, Refused}
@@ -22,7 +22,6 @@ use Rattle.refusals.specs.Answers.{answerIn}
 use Rattle.refusals.proofs.Answers.{refused-some}
 use Rattle.lookups.specs.Ready.{PlacesOf, Ready}
 use Rattle.deciding.specs.Numbers.{moveOf}
-use Rattle.reduction.specs.Refusals.{refusalOf}
 use Rattle.reduction.proofs.StepLaws.{unrefused-read, unrefused-ready}
 use Rattle.runs.specs.declared.Move.{Move}
 use Rattle.runs.specs.declared.Begun.{Begun}
@@ -30,10 +29,10 @@ use Rattle.runs.specs.Begins.{moveIn, movesIn, moveAt, movesOf, unlessRe
 use Rattle.runs.proofs.Fold.{noMove, stepS, stepA, Planned, planned, Turn, begin, some-left, next, ended}
 
 module _ (image words : List ℕ) (moves answers : ℕ) (r : Answer)
-    (e : answerIn r ≡ refusalOf image words (not (eqb (length words) 9112) || not (eqb answers moves))) where
-  same-refusal : answerIn r ≡ refusalOf image words (length words isnt 9112 or answers isnt moves)
+    (e : answerIn r ≡ movesRefusal image words (not (eqb (length words) 9112) || not (eqb answers moves))) where
+  same-refusal : answerIn r ≡ movesRefusal image words (length words isnt 9112 or answers isnt moves)
   unfolding _isnt_
-  same-refusal = e ∙ ap (refusalOf image words) (or-is (not (eqb (length words) 9112)) (not (eqb answers moves)))
+  same-refusal = e ∙ ap (movesRefusal image words) (or-is (not (eqb (length words) 9112)) (not (eqb answers moves)))
 
   pub begin-refused : (x : code.Refusal) → r ≡ Refused x → Begins image words moves answers (record { answer = r; places = 0; count = 0 })
   begin-refused x q = record {

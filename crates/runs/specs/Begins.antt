@@ -9,10 +9,10 @@ use Rattle.definitions.specs.Answer.{Refusal}
 use Rattle.definitions.specs.Slots.{word}
 use Rattle.definitions.specs.Record.{stateLength}
 use Rattle.definitions.specs.Moves as moves
+use Rattle.definitions.specs.Calls.{movesRefusal}
 use Rattle.refusals.specs.Answers.{answerIn}
 use Rattle.lookups.specs.Ready.{Ready}
 use Rattle.deciding.specs.Numbers.{moveOf}
-use Rattle.reduction.specs.Refusals.{refusalOf}
 use Rattle.runs.specs.declared.Move.{Move}
 use Rattle.runs.specs.declared.Begun.{Begun}
 
@@ -43,6 +43,6 @@ unlessRefused (some r) n = 0
 
 -- a run of so many moves with room for so many answers
 pub record Begins (image words : List ℕ) (moves answers : ℕ) (r : Begun) : Type 0 where
-  pub answer : answerIn (r .answer) ≡ refusalOf image words (length words isnt stateLength or answers isnt moves)
+  pub answer : answerIn (r .answer) ≡ movesRefusal image words (length words isnt stateLength or answers isnt moves)
   pub count : r .count ≡ unlessRefused (answerIn (r .answer)) moves
   pub ready : answerIn (r .answer) ≡ none → Ready image (r .places) words

@@ -1,30 +1,31 @@
 -- Each of several sets is within a set exactly when their union is: what clause 6 asks is gathered so. Assumes nothing.
-use mathlib.Core.Path.{_≡_, refl, sym, ap, subst, _∙_}
+use mathlib.Core.Path.{_≡_, refl, sym, ap, _∙_}
 use mathlib.Core.Bool.{Bool, true, false}
 use mathlib.Core.List.{List}
-use mathlib.Core.Logic.{_⊎_, inl, inr, ⊎-elim}
+use mathlib.Core.Logic.{inl, inr, ⊎-elim}
 use Prim.Native.Nat.{ℕ, _+_, _^_, _≤_, _<_, zero-le}
-use native.Mathlib.Nat.{not-suc-le-zero, le-antisymm}
+use native.Mathlib.Nat.{le-antisymm}
 use native.Mathlib.Numerals.{add-one}
 use native.Mathlib.Omega.{arith}
-use native.Mathlib.Decide.{ℕ-discrete}
 use borrow.Author.Needs.{needs}
 use lib.Dec.{T}
-use lib.ListN.{length, getD, set, replicate, length-set, length-replicate, getD-replicate}
-use lib.Seq.{getD-set-same, getD-set-other}
+use lib.ListN.{getD}
 use Rattle.definitions.specs.Bounded.{_and_, _or_, _implies_, _isnt_, allBelow}
-use Rattle.definitions.specs.Sets.{has, forEach, within, meets}
+use Rattle.definitions.specs.Sets.{has, forEach, forSome, within, meets}
 use Rattle.definitions.specs.Model.{Line}
 use Rattle.definitions.specs.Estimate.{Estimate, estimateOf}
-use Rattle.definitions.specs.Clauses.{clause6}
+use Rattle.definitions.specs.Clauses.{clause4, clause5, clause6}
 use Rattle.definitions.proofs.Bounded.{and-iff, or-iff, all-iff, implies-iff, isnt-iff, true-of, of-true, false-of, not-false, same-test}
-use Rattle.definitions.proofs.Sets.{and-true, and-assoc, has-none, forEach-iff, forEach-cong, within-iff, within-trans}
+use Rattle.definitions.proofs.Sets.{and-true, and-assoc, has-none, forEach-iff, forSome-iff, within-iff, within-trans, meets-iff, meets-comm}
 use Rattle.definitions.proofs.Loops.{fails, holds}
 use Rattle.sets.specs.Lowest.{lowestOf, WithoutLowest}
-use Rattle.sets.proofs.Walk.{Left, left-start, left-turn, left-in, rest-keeps, walk-less, split-each, none-each}
-use Rattle.clauses.specs.Known.{EstimateOfNames, Decides}
-use Rattle.clauses.proofs.Members.{UnionOf, left-62, left-64, has-as, within-as, names-shown}
-use Rattle.sharing.specs.Shared.{Least, Joined, sentIn, allSentIn, sentByOther, sentByOthers, sharedIn, allSharedIn, sharedByOther, sharedByOthers, sharedAt, Sends, SharedTable, DecidesFor}
+use Rattle.sets.specs.Names.{NamesOnly}
+use Rattle.sets.proofs.Walk.{Left, left-start, left-turn, walk-less, split-each, none-each}
+use Rattle.clauses.proofs.Members.{UnionOf, left-62, left-64, names-shown}
+use Rattle.clauses.proofs.Rows.{Rows, rows-start, rows-turn, rows-end, rows-size}
+use Rattle.links.specs.Types.{Types, TypeTable}
+use Rattle.sharing.specs.declared.Gathered.{Gathered}
+use Rattle.sharing.specs.Shared.{Least, Most, Joined, sentIn, allSentIn, sentByOther, sentByOthers, sharedIn, allSharedIn, sharedByOther, sharedByOthers, sharedAt, sharedOn, maySend, Sends, GatheredOf, NothingGathered}
 
 -- ---- one union
 
@@ -134,14 +135,29 @@ module _ (e : Estimate) (x k s w₀ left w : ℕ) (g : Gathering s (sharedIn e x
 -- ---- every other box
 
 module _ (e : Estimate) (b x k w : ℕ) where
-  pub box-in : (v s : ℕ) → (k ≡ b → ⊥) → Joined v w (allSharedIn e x k s) → s ≡ e .shown k → Joined v w (sharedByOther e b x k)
+  pub box-in : (v : ℕ) → (k ≡ b → ⊥) → Joined v w (allSharedIn e x k (e .shown k)) → Joined v w (sharedByOther e b x k)
   unfolding sharedByOther
-  box-in v s f j es =
-      joined-if (k isnt b) (allSharedIn e x k (e .shown k)) v w (isnt-yes k b f) (subst (λ (z : ℕ). Joined v w (allSharedIn e x k z)) es j)
+  box-in v f j = joined-if (k isnt b) (allSharedIn e x k (e .shown k)) v w (isnt-yes k b f) j
 
   pub box-out : k ≡ b → Joined w w (sharedByOther e b x k)
   unfolding sharedByOther
   box-out f = joined-not (k isnt b) (allSharedIn e x k (e .shown k)) w (isnt-no k b f)
+
+-- a box whose types share no name with x asks nothing
+module _ (e : Estimate) (x k w : ℕ) where
+  pub shown-in : (v s : ℕ) → Joined v w (allSharedIn e x k s) → s ≡ e .shown k → Joined v w (allSharedIn e x k (e .shown k))
+  shown-in v s j es = rw es at j
+
+  pub shown-out : (y : ℕ) (r : Bool) → r ≡ meets x y → Types e k (e .shown k) y → r ≡ false → Joined w w (allSharedIn e x k (e .shown k))
+  unfolding allSharedIn sharedIn
+  shown-out y r er t f = record {
+    same = λ q. sym (and-true (within w q)) ∙ ap (λ (z : Bool). within w q and z) (sym (true-of (allSharedIn e x k (e .shown k) q)
+        (forEach-iff (e .shown k) (λ c. sharedIn e x k c q) .1 (λ c l h. implies-iff (meets x (e .eps k c)) (sentIn e k c q) .1
+        (λ u. absurd (not-false (sym (t .same x) ∙ sym er ∙ f) (forSome-iff (e .shown k) (λ c. meets x (e .eps k c)) .1 (c, l, h, u))))))));
+  }
+
+pub types-at : (e : Estimate) (boxes k v : ℕ) (t : List ℕ) → TypeTable e boxes t → k < boxes → v ≡ getD t k 0 → Types e k (e .shown k) v
+types-at e boxes k v t d h ev = rw ev (d .each k h)
 
 -- what the boxes below k ask
 pub record Through (f : ℕ → ℕ → Bool) (n k w : ℕ) : Type 0 where
@@ -175,70 +191,14 @@ module _ (image : List ℕ) (boxes : ℕ) where
       → Least v (allSentIn (estimateOf image) k s)
   sends-at t k s v d h es ev = rw (es, ev) (d .each k h)
 
--- the entries below k are right
-pub record Sending (image : List ℕ) (boxes k : ℕ) (t : List ℕ) : Type 0 where
-  pub size : length t ≡ 8
-  pub each : (i : ℕ) → i < k → Least (getD t i 0) (allSentIn (estimateOf image) i (estimateOf image .shown i))
+abbrev pub SentOf : List ℕ → ℕ → ℕ → Type 0
+SentOf image k w = Least w (allSentIn (estimateOf image) k (estimateOf image .shown k))
 
-module _ (image : List ℕ) (boxes : ℕ) where
-  pub sending-start : Sending image boxes 0 (replicate 8 0)
-  sending-start = record { size = length-replicate {A = ℕ} 8 0; each = λ i l. absurd (not-suc-le-zero l) }
+pub sent-as : (image : List ℕ) (k s w : ℕ) → Least w (allSentIn (estimateOf image) k s) → s ≡ estimateOf image .shown k → SentOf image k w
+sent-as image k s w a es = rw es at a
 
-  pub sending-turn : (k w s : ℕ) (t : List ℕ) → EstimateOfNames image boxes → Sending image boxes k t → k < boxes → Least w (allSentIn (estimateOf image) k s)
-      → s ≡ estimateOf image .shown k → Sending image boxes (k + 1) (set t k w)
-  sending-turn k w s t small f h a es = record { size = simp length-set (f .size); each = λ i l. pick i l (ℕ-discrete i k) }
-    where
-      pick : (i : ℕ) → i < k + 1 → Dec (i ≡ k) → Least (getD (set t k w) i 0) (allSentIn (estimateOf image) i (estimateOf image .shown i))
-      pick i l (yes z) = rw (z, getD-set-same t k w 0 (omega (arith, f .size, small .most))) (rw es at a)
-      pick i l (no z) = rw (getD-set-other t k i w 0) (f .each i (omega arith))
-
-  pub sending-end : (k : ℕ) (t : List ℕ) → Sending image boxes k t → boxes ≤ k → Sends image boxes t
-  sending-end k t f h = record { size = f .size; each = λ i l. f .each i (omega arith) }
-
--- the table of what each name of box b asks, right but for the names left of those shown
-pub record Filling (image : List ℕ) (boxes b left : ℕ) (t : List ℕ) : Type 0 where
-  pub size : length t ≡ 64
-  pub there : Left (estimateOf image .shown b) left
-  pub each : (a : ℕ) → a < 64 → (T (has left a) → ⊥) → Least (getD t a 0) (sharedAt (estimateOf image) boxes b a)
-
-module _ (image : List ℕ) (boxes b : ℕ) where
-  pub filling-start : (left : ℕ) (t : List ℕ) → t ≡ replicate 64 0 → left ≡ estimateOf image .shown b → left < 2 ^ 64 → Filling image boxes b left t
-  unfolding sharedAt _implies_
-  filling-start left t z e h = record {
-    size = ap length z ∙ length-replicate {A = ℕ} 64 0;
-    there = subst (λ (s : ℕ). Left s left) e (left-start left h);
-    each = λ a l out. record {
-      same = λ q. ap (λ (x : List ℕ). within (getD x a 0) q) z ∙ ap (λ (x : ℕ). within x q) (getD-replicate {A = ℕ} 64 a 0 0 l) ∙ within-none q
-          ∙ sym (ap (λ (x : Bool). x implies sharedByOthers (estimateOf image) boxes b (estimateOf image .eps b a) q)
-          (ap (λ (s : ℕ). has s a) (sym e) ∙ false-of (has left a) out));
-    };
-  }
-
-  module _ (left : ℕ) (t : List ℕ) (f : Filling image boxes b left t) where
-    pub filling-turn : (n u w x : ℕ) → (left ≡ 0 → ⊥) → n ≡ lowestOf left → WithoutLowest left u → Least w (sharedByOthers (estimateOf image) boxes b x)
-        → x ≡ estimateOf image .eps b n → Filling image boxes b u (set t n w)
-    unfolding sharedAt _implies_
-    filling-turn n u w x z e r a ex = record {
-      size = simp length-set (f .size);
-      there = left-turn (estimateOf image .shown b) left u (f .there) z r;
-      each = λ i l out. pick i l out (ℕ-discrete i n);
-    }
-      where
-        here : Least w (sharedAt (estimateOf image) boxes b n)
-        here = record {
-          same = λ q. a .same q ∙ ap (λ (y : ℕ). sharedByOthers (estimateOf image) boxes b y q) ex
-              ∙ sym (ap (λ (y : Bool). y implies sharedByOthers (estimateOf image) boxes b (estimateOf image .eps b n) q)
-              (true-of (has (estimateOf image .shown b) n) (left-in (estimateOf image .shown b) left n (f .there) z e)));
-        }
-
-        pick : (i : ℕ) → i < 64 → (T (has u i) → ⊥) → Dec (i ≡ n) → Least (getD (set t n w) i 0) (sharedAt (estimateOf image) boxes b i)
-        pick i l out (yes y) = rw (y, getD-set-same t n w 0 (omega (arith, f .size, y, l))) here
-        pick i l out (no y) =
-            rw (getD-set-other t n i w 0)
-            (f .each i l (λ v. out (rest-keeps left u n r e i y v)))
-
-    pub filling-end : left ≡ 0 → SharedTable image boxes b t
-    filling-end z = record { size = f .size; each = λ a l. f .each a l (λ v. not-false (ap (λ (x : ℕ). has x a) z ∙ has-none a) v) }
+pub sends-end : (image : List ℕ) (boxes k : ℕ) (t : List ℕ) → Rows (SentOf image) k t → boxes ≤ k → Sends image boxes t
+sends-end image boxes k t f h = record { size = f .size; each = rows-end (SentOf image) boxes k t f h }
 
 -- ---- all that other boxes may send
 
@@ -270,39 +230,168 @@ others-suffice e boxes b w q a r t =
     (λ c m u. implies-iff (meets (e .eps b a) (e .eps k c)) (within (e .kap k c) q) .1
     (λ _. forEach-iff (e .shown k) (λ i. within (e .kap k i) q) .0 (implies-iff (k isnt b) (allSentIn e k (e .shown k) q) .0 (all k l) other) c m u)))))
 
--- ---- the table decides clause 6
+-- so it is for each name of s
+pub others-on : (e : Estimate) (boxes b w q s : ℕ) → Least w (sentByOthers e boxes b) → T (within w q) → T (sharedOn e boxes b s q)
+unfolding sharedOn
+others-on e boxes b w q s r t = forEach-iff s (λ a. sharedAt e boxes b a q) .1 (λ a l h. others-suffice e boxes b w q a r t)
 
--- clause 6, as what is asked at each name of rho(p)
-at-names : (e : Estimate) (boxes b : ℕ) (l : Line) → forEach (e .rho (l .name1)) (λ a. sharedAt e boxes b a (e .rho (l .name2))) ≡ clause6 e boxes b l
-unfolding clause6 sharedAt sharedByOthers sharedByOther allSharedIn sharedIn sentIn
-at-names e boxes b l = refl
+-- ---- what the names of a channel ask of inputs, by the union of their types
 
-module _ (image : List ℕ) (boxes b s : ℕ) (t : List ℕ) where
-  decides : length t ≡ 64
-      → ((l : Line) → l .name2 < 64 → T (has s (l .name2)) → (a : ℕ) → a < 64
-      → within (getD t a 0) (estimateOf image .rho (l .name2)) ≡ sharedAt (estimateOf image) boxes b a (estimateOf image .rho (l .name2)))
-      → DecidesFor image boxes b s t
-  decides size f = record {
-    size = size;
-    each = λ l h u. record {
-      same = forEach-cong (estimateOf image .rho (l .name1)) (λ a. within (getD t a 0) (estimateOf image .rho (l .name2)))
-          (λ a. sharedAt (estimateOf image) boxes b a (estimateOf image .rho (l .name2))) (f l h u) ∙ at-names (estimateOf image) boxes b l;
-    };
-  }
+module _ (e : Estimate) (boxes b s d x q : ℕ) (both : (m : ℕ) → has d m ≡ (has s m and has (e .shown b) m)) (types : Types e b d x) where
+  one-of : (k c : ℕ) → T (meets x (e .eps k c)) → T (forSome d (λ a. meets (e .eps k c) (e .eps b a)))
+  one-of k c t = of-true (sym (types .same (e .eps k c)) ∙ meets-comm (e .eps k c) x ∙ true-of (meets x (e .eps k c)) t)
 
-  -- its entries are what is asked
-  pub full-decides : SharedTable image boxes b t → DecidesFor image boxes b s t
-  full-decides full = decides (full .size) (λ l h u a k. full .each a k .same (estimateOf image .rho (l .name2)))
+  for-one : (k c a : ℕ) → a < 64 → T (has s a) → T (has (e .shown b) a) → T (meets (e .eps b a) (e .eps k c)) → T (meets x (e .eps k c))
+  for-one k c a l h u t =
+      of-true (meets-comm x (e .eps k c) ∙ types .same (e .eps k c) ∙ true-of (forSome d (λ a. meets (e .eps k c) (e .eps b a)))
+      (forSome-iff d (λ a. meets (e .eps k c) (e .eps b a)) .1 (
+        a,
+        l,
+        of-true (both a ∙ true-of (has s a and has (e .shown b) a) (and-iff (has s a) (has (e .shown b) a) .1 (h, u))),
+        of-true (meets-comm (e .eps k c) (e .eps b a) ∙ true-of (meets (e .eps b a) (e .eps k c)) t),
+      )))
 
-  -- it is empty, and all that other boxes may send is within rho(q) for each q in s
-  pub empty-decides : (w : ℕ) (ok : Bool) → t ≡ replicate 64 0 → Least w (sentByOthers (estimateOf image) boxes b)
-      → ok ≡ forEach s (λ q. within w (estimateOf image .rho q)) → ok ≡ true → DecidesFor image boxes b s t
-  empty-decides w ok zeros others told passed = decides (ap length zeros ∙ length-replicate {A = ℕ} 64 0) (λ l h u a k.
-      let q = estimateOf image .rho (l .name2) in
-      ap (λ (y : List ℕ). within (getD y a 0) q) zeros ∙ ap (λ (y : ℕ). within y q) (getD-replicate {A = ℕ} 64 a 0 0 k) ∙ within-none q
-      ∙ sym (true-of (sharedAt (estimateOf image) boxes b a q) (others-suffice (estimateOf image) boxes b w q a others
-      (forEach-iff s (λ n. within w (estimateOf image .rho n)) .0 (of-true (sym told ∙ passed)) (l .name2) h u))))
+  to-each : T (sharedByOthers e boxes b x q) → T (sharedOn e boxes b s q)
+  unfolding sharedOn sharedAt sharedByOthers sharedByOther allSharedIn sharedIn
+  to-each t =
+      forEach-iff s (λ a. sharedAt e boxes b a q) .1
+      (λ a l h. implies-iff (has (e .shown b) a) (sharedByOthers e boxes b (e .eps b a) q) .1
+      (λ u. all-iff boxes (λ k. sharedByOther e b (e .eps b a) k q) .1
+      (λ k z. implies-iff (k isnt b) (allSharedIn e (e .eps b a) k (e .shown k) q) .1
+      (λ other. forEach-iff (e .shown k) (λ c. sharedIn e (e .eps b a) k c q) .1
+      (λ c y v. implies-iff (meets (e .eps b a) (e .eps k c)) (sentIn e k c q) .1
+      (λ w. implies-iff (meets x (e .eps k c)) (sentIn e k c q) .0
+      (forEach-iff (e .shown k) (λ c. sharedIn e x k c q) .0
+      (implies-iff (k isnt b) (allSharedIn e x k (e .shown k) q) .0 (all-iff boxes (λ k. sharedByOther e b x k q) .0 t k z) other) c y v)
+      (for-one k c a l h u w)))))))
 
-pub ruleset tables = (needs, full-decides, empty-decides)
+  from-each : T (sharedOn e boxes b s q) → T (sharedByOthers e boxes b x q)
+  unfolding sharedOn sharedAt sharedByOthers sharedByOther allSharedIn sharedIn
+  from-each t =
+      all-iff boxes (λ k. sharedByOther e b x k q) .1
+      (λ k z. implies-iff (k isnt b) (allSharedIn e x k (e .shown k) q) .1
+      (λ other. forEach-iff (e .shown k) (λ c. sharedIn e x k c q) .1
+      (λ c y v. implies-iff (meets x (e .eps k c)) (sentIn e k c q) .1
+      (λ w. let m = forSome-iff d (λ a. meets (e .eps k c) (e .eps b a)) .0 (one-of k c w) in
+      let g = and-iff (has s (m .0)) (has (e .shown b) (m .0)) .0 (of-true (sym (both (m .0)) ∙ true-of (has d (m .0)) (m .2))) in
+      implies-iff (meets (e .eps b (m .0)) (e .eps k c)) (sentIn e k c q) .0
+      (forEach-iff (e .shown k) (λ c. sharedIn e (e .eps b (m .0)) k c q) .0
+      (implies-iff (k isnt b) (allSharedIn e (e .eps b (m .0)) k (e .shown k) q) .0
+      (all-iff boxes (λ k. sharedByOther e b (e .eps b (m .0)) k q) .0
+      (implies-iff (has (e .shown b) (m .0)) (sharedByOthers e boxes b (e .eps b (m .0)) q) .0
+      (forEach-iff s (λ a. sharedAt e boxes b a q) .0 t (m .0) (m .1) (g .0)) (g .1)) k z) other) c y v)
+      (of-true (meets-comm (e .eps b (m .0)) (e .eps k c) ∙ true-of (meets (e .eps k c) (e .eps b (m .0))) (m .3)))))))
 
-pub ruleset gathers = (needs, fails, holds, walk-less, left-62, left-64, names-shown, name-in, name-out, gathering-start, gathering-turn, sent-in, sent-end, names-end, names-stop, box-in, box-out, through-start, through-turn, shared-end, sends-at, sending-start, sending-turn, sending-end, filling-start, filling-turn, filling-end, sent-in-other, sent-out-own, others-end)
+  by-types : sharedByOthers e boxes b x q ≡ sharedOn e boxes b s q
+  by-types = same-test (sharedByOthers e boxes b x q) (sharedOn e boxes b s q) to-each from-each
+
+pub names-both : (e : Estimate) (b s d y : ℕ) → NamesOnly s → y ≡ e .shown b → ((m : ℕ) → has d m ≡ (has s m and has y m)) → NamesOnly d
+names-both e b s d y f ey both = record { below = λ n l t. f .below n l (and-iff (has s n) (has y n) .0 (of-true (sym (both n) ∙ true-of (has d n) t)) .0) }
+
+pub asks-as : (e : Estimate) (boxes b s d y x z : ℕ) (g : Gathered) → ((m : ℕ) → has d m ≡ (has s m and has y m)) → y ≡ e .shown b → Types e b d x → z ≡ x
+    → GatheredOf e boxes b g → g .types ≡ z → Least (g .asks) (sharedOn e boxes b s)
+asks-as e boxes b s d y x z g both ey types ex h ez = record {
+  same = λ q. h .asks .same q ∙ ap (λ (i : ℕ). sharedByOthers e boxes b i q) (ez ∙ ex)
+      ∙ by-types e boxes b s d x q (λ m. both m ∙ ap (λ (i : ℕ). has s m and has i m) ey) types;
+}
+
+-- ---- the names that box b may send on each name of a set
+
+every : T (allBelow 64 (has 0xffffffffffffffff))
+unfolding allBelow has _and_
+every = tt
+
+all-names : (q : ℕ) → within q 0xffffffffffffffff ≡ true
+all-names q = true-of (within q 0xffffffffffffffff) (within-iff q 0xffffffffffffffff .1 (λ n l t. all-iff 64 (has 0xffffffffffffffff) .0 every n l))
+
+within-both : (v w u q : ℕ) → ((m : ℕ) → has v m ≡ (has w m and has u m)) → within q v ≡ (within q w and within q u)
+within-both v w u q e =
+    same-test (within q v) (within q w and within q u)
+    (λ t. let f = within-iff q v .0 t in
+    let g : (n : ℕ) → n < 64 → T (has q n) → T (has w n) × T (has u n) = λ n l h. and-iff (has w n) (has u n) .0 (of-true (sym (e n) ∙ true-of (has v n) (f n l h))) in
+    and-iff (within q w) (within q u) .1 (within-iff q w .1 (λ n l h. g n l h .0), within-iff q u .1 (λ n l h. g n l h .1)))
+    (λ t. let p = and-iff (within q w) (within q u) .0 t in
+    within-iff q v .1 (λ n l h. of-true (e n ∙ true-of (has w n and has u n) (and-iff (has w n) (has u n) .1 (within-iff q w .0 (p .0) n l h, within-iff q u .0 (p .1) n l h)))))
+
+-- what is left of s asks what w does not
+pub record Meeting (e : Estimate) (b s left w : ℕ) : Type 0 where
+  pub there : Left s left
+  pub same : (q : ℕ) → (within q w and maySend e b left q) ≡ maySend e b s q
+
+module _ (e : Estimate) (b s : ℕ) where
+  pub meeting-start : s < 2 ^ 64 → Meeting e b s s 0xffffffffffffffff
+  unfolding _and_
+  meeting-start h = record { there = left-start s h; same = λ q. ap (λ (y : Bool). y and maySend e b s q) (all-names q) }
+
+  module _ (left w : ℕ) (g : Meeting e b s left w) where
+    pub meeting-turn : (n t v u : ℕ) → (left ≡ 0 → ⊥) → n ≡ lowestOf left → WithoutLowest left t → ((m : ℕ) → has v m ≡ (has w m and has u m)) → u ≡ e .kap b n
+        → Meeting e b s t v
+    unfolding maySend
+    meeting-turn n t v u z f r j eu = record {
+      there = left-turn s left t (g .there) z r;
+      same = λ q. ap (λ (y : Bool). y and maySend e b t q) (within-both v w u q j ∙ ap (λ (y : ℕ). within q w and within q y) eu)
+          ∙ and-assoc (within q w) (within q (e .kap b n)) (maySend e b t q)
+          ∙ ap (λ (y : Bool). within q w and y) (sym (split-each (λ a. within q (e .kap b a)) left t n (g .there .fit) z f r)) ∙ g .same q;
+    }
+
+    pub meeting-end : left ≡ 0 → Most w (maySend e b s)
+    unfolding maySend
+    meeting-end z = record {
+      same = λ q. sym (and-true (within q w)) ∙ ap (λ (y : Bool). within q w and y) (sym (none-each (λ a. within q (e .kap b a)) left z)) ∙ g .same q;
+    }
+
+-- ---- clauses 4, 5 and 6, by what is asked of a channel
+
+pub four-is : (e : Estimate) (b : ℕ) (l : Line) → maySend e b (e .rho (l .name1)) (e .rho (l .name2)) ≡ clause4 e b l
+unfolding maySend clause4
+four-is e b l = refl
+
+pub five-is : (e : Estimate) (b : ℕ) (l : Line) → allSentIn e b (e .rho (l .name1)) (e .rho (l .name2)) ≡ clause5 e b l
+unfolding allSentIn sentIn clause5
+five-is e b l = refl
+
+pub six-is : (e : Estimate) (boxes b : ℕ) (l : Line) → sharedOn e boxes b (e .rho (l .name1)) (e .rho (l .name2)) ≡ clause6 e boxes b l
+unfolding sharedOn sharedAt sharedByOthers sharedByOther allSharedIn sharedIn sentIn clause6
+six-is e boxes b l = refl
+
+-- ---- what is gathered
+
+none-asked : (e : Estimate) (boxes b q : ℕ) → T (sharedByOthers e boxes b 0 q)
+unfolding sharedByOthers sharedByOther allSharedIn sharedIn
+none-asked e boxes b q =
+    all-iff boxes (λ k. sharedByOther e b 0 k q) .1
+    (λ k z. implies-iff (k isnt b) (allSharedIn e 0 k (e .shown k) q) .1
+    (λ other. forEach-iff (e .shown k) (λ c. sharedIn e 0 k c q) .1
+    (λ c y v. implies-iff (meets 0 (e .eps k c)) (sentIn e k c q) .1
+    (λ t. let m = meets-iff 0 (e .eps k c) .0 t in absurd (not-false (has-none (m .0)) (m .2))))))
+
+for-none : (e : Estimate) (boxes b : ℕ) → GatheredOf e boxes b (record { out = 0; most = 0xffffffffffffffff; on = 0; all = 0; types = 0; asks = 0 })
+unfolding maySend allSentIn
+for-none e boxes b = record {
+  most = record { same = λ q. all-names q ∙ sym (none-each (λ a. within q (e .kap b a)) 0 refl) };
+  all = record { same = λ q. within-none q ∙ sym (none-each (λ c. sentIn e b c q) 0 refl) };
+  asks = record { same = λ q. within-none q ∙ sym (true-of (sharedByOthers e boxes b 0 q) (none-asked e boxes b q)) };
+}
+
+pub nothing-gathered : NothingGathered (record { out = 0; most = 0xffffffffffffffff; on = 0; all = 0; types = 0; asks = 0 })
+nothing-gathered = record { each = for-none }
+
+pub nothing-of : (e : Estimate) (boxes b : ℕ) (g : Gathered) → NothingGathered g → GatheredOf e boxes b g
+nothing-of e boxes b g n = n .each e boxes b
+
+module _ (e : Estimate) (boxes b : ℕ) (g : Gathered) (h : GatheredOf e boxes b g) where
+  pub with-most : (s w : ℕ) → Most w (maySend e b s)
+      → GatheredOf e boxes b (record { out = s; most = w; on = g .on; all = g .all; types = g .types; asks = g .asks })
+  with-most s w m = record { most = m; all = h .all; asks = h .asks }
+
+  pub with-all : (s w : ℕ) → Least w (allSentIn e b s)
+      → GatheredOf e boxes b (record { out = g .out; most = g .most; on = s; all = w; types = g .types; asks = g .asks })
+  with-all s w m = record { most = h .most; all = m; asks = h .asks }
+
+  pub with-asks : (x w : ℕ) → Least w (sharedByOthers e boxes b x)
+      → GatheredOf e boxes b (record { out = g .out; most = g .most; on = g .on; all = g .all; types = x; asks = w })
+  with-asks x w m = record { most = h .most; all = h .all; asks = m }
+
+pub ruleset gathers = (needs, fails, holds, walk-less, left-62, left-64, names-shown, name-in, name-out, gathering-start, gathering-turn, sent-in, sent-end, names-end, names-stop, box-in, box-out, through-start, through-turn, shared-end, sends-at, rows-start, rows-turn, rows-size, sent-as, sends-end, shown-in, shown-out, types-at, sent-in-other, sent-out-own, others-end, meeting-start, meeting-turn, meeting-end)
+
+pub ruleset gathered = (gathers, nothing-gathered, with-most, with-all, with-asks, names-both, asks-as)

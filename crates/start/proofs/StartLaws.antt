@@ -17,7 +17,7 @@ use lib.Dec.{eqb, eqb→eq}
 use lib.ListN.{length, getD, take, drop, set, replicate, length-append, length-set, take-append-drop}
 use lib.Seq.{drop-drop, take-suc-set, drop-set-lt, append-snoc, drop-length, length-take-le}
 use Rattle.definitions.specs.Bounded.{_isnt_, someIf, orElse}
-use Rattle.definitions.specs.Sets.{has, members, size}
+use Rattle.definitions.specs.Sets.{members, size}
 use Rattle.definitions.specs.Slots.{zeros}
 use Rattle.definitions.specs.Words.{blockOf}
 use Rattle.definitions.specs.Model as paper
@@ -287,8 +287,8 @@ pub record RecordsWritten (image : List ℕ) (boxes b : ℕ) (st : List ℕ) : T
 pub records-start : (image : List ℕ) (layout : Layout) (st : List ℕ) → readModel image ≡ none → LayoutOf image layout → st ≡ zeros 9112
     → RecordsWritten image (layout .boxes) 0 st
 records-start image layout st read h e = record {
-  most = omega (arith, h .boxes, model-count image, valid-image image read .mostBoxes);
-  count = h .boxes ∙ sym (model-count image);
+  most = omega (arith, h .frame .boxes, model-count image, valid-image image read .mostBoxes);
+  count = h .frame .boxes ∙ sym (model-count image);
   upto = zero-le;
   same = e ∙ sym (filled-none 1139 8 (recordWords (modelOf image)));
 }

@@ -44,19 +44,19 @@ use Rattle.state_rules.specs.Records.{recordFitsAt}
 
 module _ (image : List ℕ) (l : Layout) (e : readModel image ≡ none) (h : LayoutOf image l) where
   boxes-are : l .boxes ≡ boxCount (modelOf image)
-  boxes-are = h .boxes ∙ sym (model-count image)
+  boxes-are = h .frame .boxes ∙ sym (model-count image)
 
   pub few-boxes : l .boxes ≤ 8
   few-boxes = omega (arith, boxes-are, valid-image image e .mostBoxes)
 
   pub few-names : l .names ≤ 60
-  few-names = omega (arith, h .names, valid-image image e .names, ap length (model-kinds image), model-names image)
+  few-names = omega (arith, h .frame .names, valid-image image e .names, ap length (model-kinds image), model-names image)
 
   -- the names of kind 0 or 3
   pub subjects-of : (s : ℕ) → ((n : ℕ) → has s n ≡ (has (l .free) n or has (l .exposed) n)) → SubjectsOf (modelOf image) s
   subjects-of s f = record {
     at = λ n q.
-        f n ∙ ap₂ _or_ (h .free n q) (h .exposed n q) ∙ and-or (n below nameCount image) (kindOfName (kindsOf image) n is 0) (kindOfName (kindsOf image) n is 3)
+        f n ∙ ap₂ _or_ (h .frame .free n q) (h .frame .exposed n q) ∙ and-or (n below nameCount image) (kindOfName (kindsOf image) n is 0) (kindOfName (kindsOf image) n is 3)
         ∙ ap (λ (c : ℕ). n below c and (kindOfName (kindsOf image) n is 0 or kindOfName (kindsOf image) n is 3)) (sym (model-names image))
         ∙ ap (λ (kinds : List ℕ). listed kinds n and (kindOfName kinds n is 0 or kindOfName kinds n is 3)) (sym (model-kinds image));
   }

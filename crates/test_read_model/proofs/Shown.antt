@@ -46,10 +46,10 @@ module _ (image : List ℕ) (l : Layout) (e : readModel image ≡ none) (h : Lay
   box-lines b q = unrefused-lines image l e h b q
 
   pub name-listed : (n : ℕ) → n < l .names → n < nameCount image
-  name-listed n q = let z = h .names in omega arith
+  name-listed n q = let z = h .frame .names in omega arith
 
   pub name-few : (n : ℕ) → n < l .names → n < 60
-  name-few n q = let z = h .names in let f = blocks-iff image .0 (unrefused-blocks image e) .head .names in omega arith
+  name-few n q = let z = h .frame .names in let f = blocks-iff image .0 (unrefused-blocks image e) .head .names in omega arith
 
   pub name-fits : (n : ℕ) → n < l .names → Fits w8 n
   name-fits n q = let f = name-few n q in omega arith

@@ -1,34 +1,33 @@
 -- A move in a state: the records that it is made in are parts of the state, and what they become is what the move leaves. Assumes nothing.
-use mathlib.Core.Path.{_≡_, refl, ap, subst, sym, _∙_}
+use mathlib.Core.Path.{_≡_, refl, ap, sym, _∙_}
 use mathlib.Core.Logic.{_≢_}
-use mathlib.Core.Bool.{Bool, true, false}
+use mathlib.Core.Bool.{Bool}
 use mathlib.Core.List.{List, _++_}
-use mathlib.Core.Option.{Option, none, some}
-use Prim.Native.Nat.{ℕ, zero, suc, _+_, _-_, _*_, _≤_, _<_}
+use Prim.Native.Nat.{ℕ, _+_, _-_, _*_, _≤_, _<_}
 use native.Mathlib.Omega.{arith}
 use borrow.Author.Needs.{needs}
-use lib.Dec.{T}
 use lib.ListN.{length, take, drop}
 use Rattle.definitions.specs.Bounded.{_and_, _or_, _is_, _below_}
 use Rattle.definitions.specs.Model.{boxAt, boxCount, output, input}
 use Rattle.definitions.specs.Image.{boxesOf, modelOf}
-use Rattle.definitions.specs.Record.{threads, thread, putThread, recordOf, putRecord, lastStamps}
-use Rattle.definitions.specs.Moves.{Kind, inside, inter, unknown, kindOfMove, Move, Outcome, refused, made, Ends, need, onMade, threadLine, onward, onwardWith, value2, insideMove, interMove, insideAct, interAct, actAs, act}
+use Rattle.definitions.specs.Record.{threads, putThread, recordOf, putRecord}
+use Rattle.definitions.specs.Moves.{Kind, inside, inter, unknown, kindOfMove, Move, Outcome, refused, made, need, onMade, threadLine, onward, onwardWith, value2, insideMove, insideAct, interAct, actAs, act}
 use Rattle.definitions.specs.Calls.{outcomeNumber, outcomeWords}
 use Rattle.definitions.proofs.Bounded.{below-iff, true-of}
 use Rattle.definitions.proofs.Image.{model-count}
 use Rattle.definitions.proofs.ReadModel.{valid-image}
-use Rattle.definitions.proofs.StateRules.{StateFits, state-iff, record-iff}
+use Rattle.definitions.proofs.StateRules.{StateFits, state-iff}
 use Rattle.definitions.proofs.Made.{refused-made, inside-act, InterActMade, inter-act, InterMade, inter-made}
 use Rattle.definitions.proofs.MoveRefusals.{meets, metAs, met, refused-iff}
 use Rattle.isolation.proofs.KeepState.{put-record-length, put-record-other, inside-size, inter-size, act-fits}
 use Rattle.state.proofs.Records.{record-part}
 use Rattle.state.proofs.Parts.{back-record}
 use Rattle.lookups.specs.Ready.{BoxReady, Ready}
+use Rattle.lookups.specs.Inside.{insideAs, insideOutcome}
 use Rattle.lookups.proofs.Ready.{read-boxes}
 use Rattle.deciding.specs.Numbers.{moveOf}
 use Rattle.deciding.proofs.States.{IsInter, not-inter, record-ready}
-use Rattle.making.specs.Left.{IsMade, insideAs, insideOutcome}
+use Rattle.making.specs.Left.{IsMade}
 
 -- the record of box b as it is lent, and the state once it is back
 abbrev lent : ℕ → List ℕ → List ℕ

@@ -4,7 +4,8 @@ ghost use Prim.Native.Nat.{_+_, _*_, _<_, _≤_};
 ghost use lib.ListN.{length};
 ghost use Rattle.definitions.specs.Words.{joined, byteAt, wordAt};
 
-fn wide(a: u8) -> usize
+// A byte as a number of a place.
+pub fn wide(a: u8) -> usize
     ensures { λ r. ⌜ r ≡ a ⌝ }
 {
     a as usize

@@ -75,19 +75,31 @@ impl Pair {
     }
 }
 
-/// An accepted pair, and the same broken late. The change is made to the model's least estimate.
-fn pairs(name: &str, draft: &Draft, change: impl FnOnce(&Model, &mut Estimate)) -> [Pair; 2] {
+/// An accepted pair: the model's least estimate, changed.
+fn accepted(
+    name: &str,
+    draft: &Draft,
+    change: impl FnOnce(&Model, &mut Estimate),
+) -> (Pair, Model, Estimate) {
     let image = draft.image();
     let model = Model::read(&image).expect("an accepted model");
     let mut estimate = least(&model);
     change(&model, &mut estimate);
-    let boxes = model.boxes().len();
-    let broken = broken_late(&model, &estimate).image(boxes);
-    let accepted =
-        Pair { name: name.to_string(), model: image.clone(), estimate: estimate.image(boxes) };
-    let broken = Pair { name: format!("{name}, broken late"), model: image, estimate: broken };
-    assert_eq!(accepted.verdict(), Verdict::Accepted, "{name}");
-    [accepted, broken]
+    let stored = estimate.image(model.boxes().len());
+    let pair = Pair { name: name.to_string(), model: image, estimate: stored };
+    assert_eq!(pair.verdict(), Verdict::Accepted, "{name}");
+    (pair, model, estimate)
+}
+
+/// An accepted pair, and the same broken late.
+fn pairs(name: &str, draft: &Draft, change: impl FnOnce(&Model, &mut Estimate)) -> [Pair; 2] {
+    let (pair, model, estimate) = accepted(name, draft, change);
+    let broken = Pair {
+        name: format!("{name}, broken late"),
+        estimate: broken_late(&model, &estimate).image(model.boxes().len()),
+        ..pair.clone()
+    };
+    [pair, broken]
 }
 
 /// The estimate less one member, the lowest or highest of a set, such that the first broken clause comes as late as can be.
@@ -200,12 +212,43 @@ fn nearly_full(model: &Model, estimate: &mut Estimate) {
     }
 }
 
+/// A typical model.
+fn typical(rng: &mut Rng) -> Draft {
+    let size = Size { names: 36, boxes: 4, lines: (40, 40), ..Size::typical(rng) };
+    random::draft(rng, size)
+}
+
 /// A typical model and the largest one.
 pub fn typical_and_largest() -> (Draft, Draft) {
     let mut rng = Rng::new(3);
-    let typical = Size { names: 36, boxes: 4, lines: (40, 40), ..Size::typical(&mut rng) };
-    let typical = random::draft(&mut rng, typical);
+    let typical = typical(&mut rng);
     (typical, largest(&mut rng))
+}
+
+/// How many models are read in turn. Where one image is read again and again the processor learns its branches.
+const IN_TURN: usize = 32;
+
+/// Times of reading and checking accepted pairs that differ, one after another: for each of them.
+fn bench_in_turn(measured: &mut Measured, name: &str, draft: fn(&mut Rng) -> Draft) {
+    let mut rng = Rng::new(5);
+    let pairs: Vec<Pair> =
+        (0..IN_TURN).map(|_| accepted(name, &draft(&mut rng), |_, _| ()).0).collect();
+    let times = timing::both(
+        || pairs.iter().fold(0, |all, pair| all | proved::read_model(black_box(&pair.model))),
+        || pairs.iter().filter(|pair| Model::read(black_box(&pair.model)).is_ok()).count(),
+    );
+    measured.note(format!("read model: {name}, {IN_TURN} in turn"), times.each(IN_TURN));
+    let check = |pair: &Pair| calls::check(black_box(&pair.model), black_box(&pair.estimate));
+    let times = timing::both(
+        || {
+            let check = |all, pair: &Pair| {
+                all | proved::check(black_box(&pair.model), black_box(&pair.estimate))
+            };
+            pairs.iter().fold(0, check)
+        },
+        || pairs.iter().filter(|pair| check(pair) == Verdict::Accepted).count(),
+    );
+    measured.note(format!("check: {name}, {IN_TURN} in turn"), times.each(IN_TURN));
 }
 
 fn all_pairs() -> Vec<Pair> {
@@ -233,5 +276,7 @@ pub fn bench(measured: &mut Measured) {
         pair.bench_calls(measured);
         read = pair.model;
     }
+    bench_in_turn(measured, "typical", typical);
+    bench_in_turn(measured, "largest", largest);
     measured.print_worst();
 }

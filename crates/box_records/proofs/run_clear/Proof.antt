@@ -1,11 +1,13 @@
 -- `box_records::run_clear` meets its contract. Assumes nothing.
 use Prim.Native.Nat.{_-_}
-use Rattle.box_records.proofs.WordLaws.{ClearRun, words}
+use Rattle.definitions.specs.Slots.{word}
+use Rattle.definitions.proofs.Loops.{ZeroRun}
+use Rattle.box_records.proofs.WordLaws.{words}
 use Rattle.box_records.proofs.run_clear.Statement.{statement}
 use Rattle.box_records.proofs.run_clear.Tie as tie
 
 abbrev Inv-loop : tie.InvT-loop
-Inv-loop r from to w₀ i₀ w i = ClearRun r from to i w
+Inv-loop r from to w₀ i₀ w i = ZeroRun (word r) from to i w
 
 abbrev μ-loop : tie.MeasureT-loop
 μ-loop r from to w₀ i₀ w i = to - i

@@ -21,6 +21,9 @@ enum-told-2 c = search finds
 sends-requires : tie.Need-sends-requires
 sends-requires c κs = search finds
 
+all-types-requires : tie.Need-all-types-requires
+all-types-requires c κs = search finds
+
 boxes-requires : tie.Need-boxes-requires
 boxes-requires c κs = search finds
 
@@ -37,5 +40,6 @@ find-spec =
     returns
     enum-told-2
     sends-requires
+    all-types-requires
     boxes-requires
     returns-2)

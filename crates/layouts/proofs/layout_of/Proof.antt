@@ -1,65 +1,53 @@
 -- `layouts::layout_of` meets its contract. Assumes nothing.
 use Prim.Native.Nat.{_-_}
-use Rattle.layouts.proofs.LayoutLaws.{LayoutSoFar, layouts}
+use Rattle.layouts.proofs.BoundLaws.{BoundSoFar, bounds}
 use Rattle.layouts.proofs.layout_of.Statement.{statement}
 use Rattle.layouts.proofs.layout_of.Tie as tie
 
 abbrev Inv-loop : tie.InvT-loop
-Inv-loop image names boxes kinds at₀ sites₀ lines₀ bound₀ k₀ b₀ at sites lines bound k b = LayoutSoFar image boxes b k at sites lines bound
+Inv-loop image l at sites lines boxes bound₀ b₀ bound b = BoundSoFar image b bound
 
 abbrev μ-loop : tie.MeasureT-loop
-μ-loop image names boxes kinds at₀ sites₀ lines₀ bound₀ k₀ b₀ at sites lines bound k b = boxes - b
+μ-loop image l at sites lines boxes bound₀ b₀ bound b = boxes - b
 
-data-word-requires : tie.Need-data-word-requires Inv-loop μ-loop
-data-word-requires c κs = search layouts
-
-data-word-requires-2 : tie.Need-data-word-requires-2 Inv-loop μ-loop
-data-word-requires-2 c κs = search layouts
-
-kind-sets-requires : tie.Need-kind-sets-requires Inv-loop μ-loop
-kind-sets-requires c κs = search layouts
+frame-of-requires : tie.Need-frame-of-requires Inv-loop μ-loop
+frame-of-requires c κs = search bounds
 
 loop-holds : tie.Need-loop-holds Inv-loop μ-loop
-loop-holds c = search layouts
+loop-holds c = search bounds
 
-box-layout-requires : tie.Need-box-layout-requires Inv-loop μ-loop
-box-layout-requires c κs = search layouts
+mul-bound-by : tie.Need-mul-bound-by Inv-loop μ-loop
+mul-bound-by c = search bounds
 
-mul-at : tie.Need-mul-at Inv-loop μ-loop
-mul-at c = search layouts
+array-read-bound-by : tie.Need-array-read-bound-by Inv-loop μ-loop
+array-read-bound-by c = search bounds
 
-array-write-at : tie.Need-array-write-at Inv-loop μ-loop
-array-write-at c = search layouts
+mul-bound-by-2 : tie.Need-mul-bound-by-2 Inv-loop μ-loop
+mul-bound-by-2 c = search bounds
 
-mul-sites : tie.Need-mul-sites Inv-loop μ-loop
-mul-sites c = search layouts
+array-read-bound-by-2 : tie.Need-array-read-bound-by-2 Inv-loop μ-loop
+array-read-bound-by-2 c = search bounds
 
-array-write-sites : tie.Need-array-write-sites Inv-loop μ-loop
-array-write-sites c = search layouts
-
-mul-lines : tie.Need-mul-lines Inv-loop μ-loop
-mul-lines c = search layouts
-
-array-write-lines : tie.Need-array-write-lines Inv-loop μ-loop
-array-write-lines c = search layouts
+bound-by-requires : tie.Need-bound-by-requires Inv-loop μ-loop
+bound-by-requires c κs = search bounds
 
 mul-bound : tie.Need-mul-bound Inv-loop μ-loop
-mul-bound c = search layouts
+mul-bound c = search bounds
 
 array-write-bound : tie.Need-array-write-bound Inv-loop μ-loop
-array-write-bound c = search layouts
+array-write-bound c = search bounds
 
 add-b : tie.Need-add-b Inv-loop μ-loop
-add-b c = search layouts
+add-b c = search bounds
 
 loop-less : tie.Need-loop-less Inv-loop μ-loop
-loop-less c = search layouts
+loop-less c = search bounds
 
 loop-again : tie.Need-loop-again Inv-loop μ-loop
-loop-again c = search layouts
+loop-again c = search bounds
 
 returns : tie.Need-returns Inv-loop μ-loop
-returns c = search layouts
+returns c = search bounds
 
 pub layout-of-spec : {M : Type 1} → statement M
 layout-of-spec =
@@ -67,17 +55,13 @@ layout-of-spec =
     (tie.spec
     Inv-loop
     μ-loop
-    data-word-requires
-    data-word-requires-2
-    kind-sets-requires
+    frame-of-requires
     loop-holds
-    box-layout-requires
-    mul-at
-    array-write-at
-    mul-sites
-    array-write-sites
-    mul-lines
-    array-write-lines
+    mul-bound-by
+    array-read-bound-by
+    mul-bound-by-2
+    array-read-bound-by-2
+    bound-by-requires
     mul-bound
     array-write-bound
     add-b

@@ -33,14 +33,20 @@ returns-2 c = (search models, λ e. refused-not (c .before .before .before .bloc
 enum-told-4 : tie.Need-enum-told-4
 enum-told-4 c = search models
 
+walk-layout-requires : tie.Need-walk-layout-requires
+walk-layout-requires c κs = search models
+
+returns-3 : tie.Need-returns-3
+returns-3 c = search models
+
 layout-of-requires : tie.Need-layout-of-requires
 layout-of-requires c κs = search models
 
 model-fault-requires : tie.Need-model-fault-requires
 model-fault-requires c κs = search models
 
-returns-3 : tie.Need-returns-3
-returns-3 c = search models
+returns-4 : tie.Need-returns-4
+returns-4 c = search models
 
 pub read-spec : {M : Type 1} → statement M
 read-spec =
@@ -56,6 +62,8 @@ read-spec =
     empty-layout-requires-2
     returns-2
     enum-told-4
+    walk-layout-requires
+    returns-3
     layout-of-requires
     model-fault-requires
-    returns-3)
+    returns-4)

@@ -54,7 +54,7 @@ loop-again : tie.Need-loop-again Inv-loop μ-loop
 loop-again c =
     let decided = c .before .before .before .before in
     let start = decided .before .before .before .before .before .before in
-    six-turn _ _ _ _ (decided .box-sites .result) (start .pre .0) (start .pre .1) (decided .before .before .loop .inv) (decided .before .loop-test .taken) (decided .box-sites .ensures) _ _
+    six-turn _ _ _ _ (decided .box-sites .result) (start .pre .0) (start .pre .1 .frame) (decided .before .before .loop .inv) (decided .before .loop-test .taken) (decided .box-sites .ensures) _ _
     (search needs) (c .before .subjects .ensures) (c .union .ensures)
 
 returns-2 : tie.Need-returns-2 Inv-loop μ-loop

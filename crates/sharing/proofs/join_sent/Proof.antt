@@ -3,8 +3,8 @@ use Rattle.sharing.proofs.Gather.{gathers}
 use Rattle.sharing.proofs.join_sent.Statement.{statement}
 use Rattle.sharing.proofs.join_sent.Tie as tie
 
-sent-by-requires : tie.Need-sent-by-requires
-sent-by-requires c κs = search gathers
+of-box-requires : tie.Need-of-box-requires
+of-box-requires c κs = search gathers
 
 union-requires : tie.Need-union-requires
 union-requires c κs = search gathers
@@ -16,4 +16,4 @@ returns-2 : tie.Need-returns-2
 returns-2 c = search gathers
 
 pub join-sent-spec : {M : Type 1} → statement M
-join-sent-spec = tie.close (tie.spec sent-by-requires union-requires returns returns-2)
+join-sent-spec = tie.close (tie.spec of-box-requires union-requires returns returns-2)

@@ -1,11 +1,12 @@
 -- `sharing::sends` meets its contract: the entries passed are right. Assumes nothing.
 use Prim.Native.Nat.{_-_}
-use Rattle.sharing.proofs.Gather.{Sending, gathers}
+use Rattle.clauses.proofs.Rows.{Rows}
+use Rattle.sharing.proofs.Gather.{SentOf, gathers}
 use Rattle.sharing.proofs.sends.Statement.{statement}
 use Rattle.sharing.proofs.sends.Tie as tie
 
 abbrev Inv-loop : tie.InvT-loop
-Inv-loop estimate boxes t₀ i₀ t i = Sending estimate boxes i t
+Inv-loop estimate boxes t₀ i₀ t i = Rows (SentOf estimate) i t
 
 abbrev μ-loop : tie.MeasureT-loop
 μ-loop estimate boxes t₀ i₀ t i = boxes - i

@@ -7,10 +7,10 @@ use Rattle.sharing.proofs.shared_with.Statement.{statement}
 use Rattle.sharing.proofs.shared_with.Tie as tie
 
 abbrev Inv-loop : tie.InvT-loop
-Inv-loop estimate sends boxes b x w₀ k₀ w k = Through (sharedByOther (estimateOf estimate) b x) boxes k w
+Inv-loop estimate sends types boxes b x w₀ k₀ w k = Through (sharedByOther (estimateOf estimate) b x) boxes k w
 
 abbrev μ-loop : tie.MeasureT-loop
-μ-loop estimate sends boxes b x w₀ k₀ w k = boxes - k
+μ-loop estimate sends types boxes b x w₀ k₀ w k = boxes - k
 
 loop-holds : tie.Need-loop-holds Inv-loop μ-loop
 loop-holds c = search gathers

@@ -15,8 +15,8 @@ nothing-requires-2 c κs = search blocks
 returns-2 : tie.Need-returns-2
 returns-2 c = search blocks
 
-block-requires : tie.Need-block-requires
-block-requires c κs = search blocks
+whole-requires : tie.Need-whole-requires
+whole-requires c κs = search blocks
 
 returns-3 : tie.Need-returns-3
 returns-3 c = search blocks
@@ -24,4 +24,4 @@ returns-3 c = search blocks
 pub refused-spec : {M : Type 1} → statement M
 refused-spec =
     tie.close
-    (tie.spec nothing-requires returns nothing-requires-2 returns-2 block-requires returns-3)
+    (tie.spec nothing-requires returns nothing-requires-2 returns-2 whole-requires returns-3)

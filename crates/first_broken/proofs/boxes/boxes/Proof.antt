@@ -9,10 +9,10 @@ use Rattle.first_broken.proofs.boxes.boxes.Statement.{statement}
 use Rattle.first_broken.proofs.boxes.boxes.Tie as tie
 
 abbrev Inv-loop : tie.InvT-loop
-Inv-loop model estimate sends layout count b₀ b = Passed count (boxBroken (modelOf model) (estimateOf estimate)) b
+Inv-loop model estimate sends types layout count b₀ b = Passed count (boxBroken (modelOf model) (estimateOf estimate)) b
 
 abbrev μ-loop : tie.MeasureT-loop
-μ-loop model estimate sends layout count b₀ b = count - b
+μ-loop model estimate sends types layout count b₀ b = count - b
 
 loop-holds : tie.Need-loop-holds Inv-loop μ-loop
 loop-holds c = search boxes

@@ -1,41 +1,28 @@
--- `first_broken::boxes::lines_of` meets its contract: the table decides clause 6 at the box's inputs. Assumes nothing.
-use Rattle.first_broken.proofs.Steps.{tables}
+-- `first_broken::boxes::lines_of` meets its contract. Assumes nothing.
+use Rattle.first_broken.proofs.Steps.{walks}
+use borrow.Author.Needs.{needs}
 use Rattle.first_broken.proofs.boxes.lines_of.Statement.{statement}
 use Rattle.first_broken.proofs.boxes.lines_of.Tie as tie
 
-mul-intersection : tie.Need-mul-intersection
-mul-intersection c = search tables
+mul-total : tie.Need-mul-total
+mul-total c = search needs
 
-array-read-intersection : tie.Need-array-read-intersection
-array-read-intersection c = search tables
+array-read-total : tie.Need-array-read-total
+array-read-total c = search needs
 
-intersection-requires : tie.Need-intersection-requires
-intersection-requires c κs = search tables
-
-table-requires : tie.Need-table-requires
-table-requires c κs = search tables
-
-mul-each-line : tie.Need-mul-each-line
-mul-each-line c = search tables
-
-array-read-each-line : tie.Need-array-read-each-line
-array-read-each-line c = search tables
-
-each-line-requires : tie.Need-each-line-requires
-each-line-requires c κs = search tables
+lines-pass-requires : tie.Need-lines-pass-requires
+lines-pass-requires c κs = search walks
 
 returns : tie.Need-returns
-returns c = search tables
+returns c = search walks
+
+each-line-requires : tie.Need-each-line-requires
+each-line-requires c κs = search walks
+
+returns-2 : tie.Need-returns-2
+returns-2 c = search walks
 
 pub lines-of-spec : {M : Type 1} → statement M
 lines-of-spec =
     tie.close
-    (tie.spec
-    mul-intersection
-    array-read-intersection
-    intersection-requires
-    table-requires
-    mul-each-line
-    array-read-each-line
-    each-line-requires
-    returns)
+    (tie.spec mul-total array-read-total lines-pass-requires returns each-line-requires returns-2)

@@ -1,0 +1,4 @@
+pub mod Marks
+pub mod Reach
+pub mod Steps
+pub mod Walks

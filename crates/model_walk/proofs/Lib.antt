@@ -1,0 +1,2 @@
+pub mod SiteWalks
+pub mod BoxWalks
