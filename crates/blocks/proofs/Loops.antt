@@ -1,126 +1,116 @@
--- The loops of the check: at place p with n words to go, what is left takes the value so far to the answer R. Assumes nothing.
+-- The loop of the check, in four chains: at place p with n words to go, what is left takes the check so far to the answer R. Assumes nothing.
 use mathlib.Core.Path.{_≡_, refl, sym, ap, ap₂, _∙_}
 use mathlib.Core.List.{List}
 use Prim.Native.Nat.{ℕ, zero, suc, _+_, _-_, _*_, _%_, _^_, _≤_, _<_}
-use native.Mathlib.Nat.{not-suc-le-zero, add-assoc, mul-comm, mul-assoc, add-mul, pow-succ'}
+use native.Mathlib.Nat.{not-suc-le-zero}
 use native.Mathlib.Omega.{arith}
 use borrow.Author.Needs.{needs}
 use lib.Dec.{lit<}
-use lib.ListN.{length, getD, drop}
-use lib.Pow.{pow-add}
+use lib.ListN.{length, drop}
 use Rattle.definitions.specs.Words.{wordAt, wordsOf}
 use Rattle.definitions.specs.Check.{checkFrom}
-use Rattle.definitions.proofs.Bounded.{getD-tabulate}
-use Rattle.definitions.proofs.Check.{check-turn, check-weigh, mul-mod-l, mul-mod-r, weigh, weigh-turn}
-use Rattle.blocks.specs.Powers.{squares}
+use Rattle.definitions.proofs.Check.{check-turn, mul-mod-r}
 
--- ---- step by step
+-- ---- equal modulo 2 ^ 64
 
-pub record StepResult (s : List ℕ) (R p n c : ℕ) : Type 0 where
+abbrev Same : ℕ → ℕ → Type 0
+Same x y = x % 2 ^ 64 ≡ y % 2 ^ 64
+
+same : (x y : ℕ) → x ≡ y % 2 ^ 64 → Same x y
+same x y e = omega arith
+
+add-same : (x y v w : ℕ) → Same x y → Same v w → Same (x + v) (y + w)
+add-same x y v w e f = omega arith
+
+times31-same : (x y : ℕ) → Same x y → Same (31 * x) (31 * y)
+times31-same x y e = sym (mul-mod-r 31 x (2 ^ 64)) ∙ ap (λ (u : ℕ). (31 * u) % 2 ^ 64) e ∙ mul-mod-r 31 y (2 ^ 64)
+
+step-same : (x y v w : ℕ) → Same x y → Same v w → Same (31 * x + v) (31 * y + w)
+step-same x y v w e f = add-same (31 * x) (31 * y) v w (times31-same x y e) f
+
+-- three times 31 and a step are 31 ^ 4 and the word
+pub chain-step-is : (c x y z w v r : ℕ) → x ≡ (31 * c) % 2 ^ 64 → y ≡ (31 * x) % 2 ^ 64 → z ≡ (31 * y) % 2 ^ 64 → w ≡ v → r ≡ (31 * z + w) % 2 ^ 64
+    → r ≡ (31 ^ 4 * c + v) % 2 ^ 64
+chain-step-is c x y z w v r e f g k h =
+    let y′ : Same y (31 * (31 * c)) = same y (31 * x) f ∙ times31-same x (31 * c) (same x (31 * c) e) in
+    let z′ : Same z (31 * (31 * (31 * c))) = same z (31 * y) g ∙ times31-same y (31 * (31 * c)) y′ in
+    let r′ = h ∙ step-same z (31 * (31 * (31 * c))) w v z′ (ap (λ (u : ℕ). u % 2 ^ 64) k) in
+    omega (arith, r′)
+
+-- ---- word by word
+
+-- c is the check so far, reduced or not
+pub record ToGo (s : List ℕ) (R p n c : ℕ) : Type 0 where
   pub room : p + 8 * n ≤ length s
-  pub rest : checkFrom c (wordsOf n (drop p s)) ≡ R
+  pub rest : checkFrom (c % 2 ^ 64) (wordsOf n (drop p s)) ≡ R
 
-pub stepped-start : (s : List ℕ) (at n : ℕ) → at + 8 * n ≤ length s → StepResult s (checkFrom 1 (wordsOf n (drop at s))) at n 1
-stepped-start s at n h = record { room = h; rest = refl }
-
-pub stepped-turn : (s : List ℕ) (R p n c d w : ℕ) → StepResult s R p n c → 0 < n → w ≡ wordAt s p → d ≡ (31 * c + w) % 2 ^ 64
-    → StepResult s R (p + 8) (n - 1) d
-stepped-turn s R p n c d w h l e q =
+turn : (s : List ℕ) (R p q m n c w : ℕ) → q ≡ p + 8 → m ≡ n + 1 → w ≡ wordAt s p → ToGo s R p m c → ToGo s R q n (31 * c + w)
+turn s R p q m n c w e f g h =
+    let here : (31 * c + w) % 2 ^ 64 ≡ (31 * (c % 2 ^ 64) + wordAt s p) % 2 ^ 64 =
+    step-same c (c % 2 ^ 64) w (wordAt s p) (sym (same (c % 2 ^ 64) c refl)) (ap (λ (x : ℕ). x % 2 ^ 64) g) in
+    let left : n ≡ m - 1 = omega arith in
     record {
       room = omega (arith, h .room);
-      rest = sym (check-turn s p n c d l (q ∙ ap (λ (x : ℕ). (31 * c + x) % 2 ^ 64) e)) ∙ h .rest;
-    }
-
-pub stepped-end : (s : List ℕ) (R p n c : ℕ) → StepResult s R p n c → n ≤ 0 → c ≡ R
-unfolding checkFrom wordsOf
-stepped-end s R p zero c h l = h .rest
-stepped-end s R p (suc n) c h l = absurd (not-suc-le-zero l)
-
--- ---- as a sum, two words at a time
-
-pub square-at : (t : List ℕ) (k : ℕ) → t ≡ squares → k < 32 → getD t k 0 ≡ 961 ^ k % 2 ^ 64
-unfolding squares
-square-at t k e h = ap (λ (l : List ℕ). getD l k 0) e ∙ getD-tabulate 32 (λ (i : ℕ). 961 ^ i % 2 ^ 64) 0 k h
-
--- the powers of 961 are those of 31 of twice the number
-squared : (n : ℕ) → 31 ^ (2 * n) ≡ 961 ^ n
-squared zero = refl
-squared (suc n) =
-    let twice : 2 * suc n ≡ 2 + 2 * n = omega arith in
-    ap (λ (i : ℕ). 31 ^ i) twice ∙ pow-add 31 2 (2 * n) ∙ ap (λ (x : ℕ). 961 * x) (squared n) ∙ sym (pow-succ' 961 n)
-
--- the two words at place p as one number
-pub two-is : (s : List ℕ) (p a b r : ℕ) → a ≡ wordAt s p → b ≡ wordAt s (p + 8) → r ≡ (31 * a + b) % 2 ^ 64
-    → r ≡ (31 * wordAt s p + wordAt s (p + 8)) % 2 ^ 64
-two-is s p a b r e f q = q ∙ ap₂ (λ (x y : ℕ). (31 * x + y) % 2 ^ 64) e f
-
--- two words at place p, each times its power
-weigh-pair : (s : List ℕ) (p n : ℕ) → 0 < n
-    → weigh (2 * n) (drop p s) ≡ (31 * wordAt s p + wordAt s (p + 8)) * 961 ^ (n - 1) + weigh (2 * (n - 1)) (drop (p + 16) s)
-weigh-pair s p n l =
-    let a = wordAt s p in
-    let b = wordAt s (p + 8) in
-    let Q = 961 ^ (n - 1) in
-    let i : 2 * n - 1 ≡ 1 + 2 * (n - 1) = omega arith in
-    let j : 2 * n - 1 - 1 ≡ 2 * (n - 1) = omega arith in
-    let o : p + 8 + 8 ≡ p + 16 = omega arith in
-    let high : 31 ^ (2 * n - 1) ≡ 31 * Q = ap (λ (k : ℕ). 31 ^ k) i ∙ pow-add 31 1 (2 * (n - 1)) ∙ ap (λ (x : ℕ). 31 * x) (squared (n - 1)) in
-    let low : 31 ^ (2 * n - 1 - 1) ≡ Q = ap (λ (k : ℕ). 31 ^ k) j ∙ squared (n - 1) in
-    let tail = ap₂ (λ (k r : ℕ). weigh k (drop r s)) j o in
-    weigh-turn s p (2 * n) (omega arith)
-    ∙ ap₂ (λ (x y : ℕ). a * x + y) high (weigh-turn s (p + 8) (2 * n - 1) (omega arith) ∙ ap₂ (λ (x y : ℕ). b * x + y) low tail)
-    ∙ sym (add-assoc (a * (31 * Q)) (b * Q) (weigh (2 * (n - 1)) (drop (p + 16) s)))
-    ∙ ap (λ (x : ℕ). x + weigh (2 * (n - 1)) (drop (p + 16) s)) (sym (pair a b Q))
-  where
-    pair : (a b q : ℕ) → (31 * a + b) * q ≡ a * (31 * q) + b * q
-    pair a b q = add-mul (31 * a) b q ∙ ap (λ (x : ℕ). x * q + b * q) (mul-comm 31 a) ∙ ap (λ (x : ℕ). x + b * q) (mul-assoc a 31 q)
-
--- at place p, with n pairs of words to go
-pub record Summed (s : List ℕ) (R p n t : ℕ) : Type 0 where
-  pub room : p + 16 * n ≤ length s
-  pub fit : t < 2 ^ 64
-  pub rest : (t + weigh (2 * n) (drop p s)) % 2 ^ 64 ≡ R
-
-fits : (u m : ℕ) → u ≡ m % 2 ^ 64 → u < 2 ^ 64
-fits u m e = omega arith
-
-joined : (t m x v : ℕ) → m % 2 ^ 64 ≡ x % 2 ^ 64 → t ≡ m % 2 ^ 64 → (t + v) % 2 ^ 64 ≡ (x + v) % 2 ^ 64
-joined t m x v e f = omega arith
-
-carried : (t u m x v : ℕ) → m % 2 ^ 64 ≡ x % 2 ^ 64 → u ≡ (m + t) % 2 ^ 64 → (u + v) % 2 ^ 64 ≡ (t + (x + v)) % 2 ^ 64
-carried t u m x v e f = omega arith
-
--- the 1 of the start with the first word, times the highest power
-pub summed-start : (s : List ℕ) (at w c q t : ℕ) → at + 504 ≤ length s → w ≡ wordAt s at → c ≡ (31 * 1 + w) % 2 ^ 64 → q ≡ 961 ^ 31 % 2 ^ 64
-    → t ≡ (c * q) % 2 ^ 64 → Summed s (checkFrom 1 (wordsOf 63 (drop at s))) (at + 8) 31 t
-summed-start s at w c q t h e d f g =
-    let first = check-turn s at 63 1 c (lit< tt) (d ∙ ap (λ (x : ℕ). (31 * 1 + x) % 2 ^ 64) e) in
-    let all = check-weigh 62 (drop (at + 8) s) c (fits c (31 * 1 + w) d) in
-    let high : (c * q) % 2 ^ 64 ≡ (c * 31 ^ 62) % 2 ^ 64 =
-    ap (λ (x : ℕ). (c * x) % 2 ^ 64) f ∙ mul-mod-r c (961 ^ 31) (2 ^ 64) ∙ ap (λ (x : ℕ). (c * x) % 2 ^ 64) (sym (squared 31)) in
-    record {
-      room = omega arith;
-      fit = fits t (c * q) g;
-      rest = joined t (c * q) (c * 31 ^ 62) (weigh 62 (drop (at + 8) s)) high g ∙ sym all ∙ sym first;
-    }
-
-pub summed-turn : (s : List ℕ) (R p n t u w q : ℕ) → Summed s R p n t → 0 < n → w ≡ (31 * wordAt s p + wordAt s (p + 8)) % 2 ^ 64
-    → q ≡ 961 ^ (n - 1) % 2 ^ 64 → u ≡ (w * q + t) % 2 ^ 64 → Summed s R (p + 16) (n - 1) u
-summed-turn s R p n t u w q h l e f k =
-    let both = 31 * wordAt s p + wordAt s (p + 8) in
-    let x : (w * q) % 2 ^ 64 ≡ (both * 961 ^ (n - 1)) % 2 ^ 64 =
-    ap₂ (λ (a b : ℕ). (a * b) % 2 ^ 64) e f ∙ mul-mod-r (both % 2 ^ 64) (961 ^ (n - 1)) (2 ^ 64) ∙ mul-mod-l both (961 ^ (n - 1)) (2 ^ 64) in
-    record {
-      room = omega (arith, h .room);
-      fit = fits u (w * q + t) k;
       rest =
-          carried t u (w * q) (both * 961 ^ (n - 1)) (weigh (2 * (n - 1)) (drop (p + 16) s)) x k
-          ∙ ap (λ (v : ℕ). (t + v) % 2 ^ 64) (sym (weigh-pair s p n l)) ∙ h .rest;
+          ap₂ (λ (k r : ℕ). checkFrom ((31 * c + w) % 2 ^ 64) (wordsOf k (drop r s))) left e
+          ∙ sym (check-turn s p m (c % 2 ^ 64) ((31 * c + w) % 2 ^ 64) (omega arith) here) ∙ h .rest;
     }
 
-pub summed-end : (s : List ℕ) (R p n t : ℕ) → Summed s R p n t → n ≤ 0 → t ≡ R
-unfolding weigh
-summed-end s R p zero t h l = omega (arith, h .rest, h .fit)
-summed-end s R p (suc n) t h l = absurd (not-suc-le-zero l)
+-- ---- in four chains
 
-pub ruleset sums = (needs, square-at, two-is, stepped-start, stepped-turn, stepped-end, summed-start, summed-turn, summed-end)
+-- the four chains, joined by three steps
+unfoldable pub joined : ℕ → ℕ → ℕ → ℕ → ℕ
+joined a b c d = 31 * (31 * (31 * a + b) + c) + d
+
+-- n turns of four words to go
+pub record Chains (s : List ℕ) (R p n a b c d : ℕ) : Type 0 where
+  pub joint : ToGo s R p (4 * n) (joined a b c d)
+
+joined-same : (a b c d x y z w : ℕ) → Same a x → Same b y → Same c z → Same d w → Same (joined a b c d) (joined x y z w)
+unfolding joined
+joined-same a b c d x y z w e f g h =
+    step-same (31 * (31 * a + b) + c) (31 * (31 * x + y) + z) d w (step-same (31 * a + b) (31 * x + y) c z (step-same a x b y e f) g) h
+
+-- the 1 of the start and the first three words
+pub chains-start : (s : List ℕ) (at b c d : ℕ) → at + 504 ≤ length s → b ≡ wordAt s at → c ≡ wordAt s (at + 8) → d ≡ wordAt s (at + 16)
+    → Chains s (checkFrom 1 (wordsOf 63 (drop at s))) (at + 24) 15 1 b c d
+unfolding joined
+chains-start s at b c d h e f g =
+    let R = checkFrom 1 (wordsOf 63 (drop at s)) in
+    let none : ToGo s R at 63 1 = record { room = h; rest = refl } in
+    let one = turn s R at (at + 8) 63 62 1 b refl refl e none in
+    let two = turn s R (at + 8) (at + 16) 62 61 (31 * 1 + b) c (omega arith) refl f one in
+    record { joint = turn s R (at + 16) (at + 24) 61 60 (31 * (31 * 1 + b) + c) d (omega arith) refl g two }
+
+-- four words more, one to a chain
+pub chains-turn : (s : List ℕ) (R p n a b c d e f g h : ℕ) → Chains s R p n a b c d → 0 < n
+    → e ≡ (31 ^ 4 * a + wordAt s p) % 2 ^ 64 → f ≡ (31 ^ 4 * b + wordAt s (p + 8)) % 2 ^ 64 → g ≡ (31 ^ 4 * c + wordAt s (p + 16)) % 2 ^ 64
+    → h ≡ (31 ^ 4 * d + wordAt s (p + 24)) % 2 ^ 64 → Chains s R (p + 32) (n - 1) e f g h
+unfolding joined
+chains-turn s R p n a b c d e f g h k l ee ef eg eh =
+    let m = 4 * (n - 1) in
+    let j = joined a b c d in
+    let x = wordAt s p in
+    let y = wordAt s (p + 8) in
+    let z = wordAt s (p + 16) in
+    let w = wordAt s (p + 24) in
+    let one = turn s R p (p + 8) (4 * n) (m + 3) j x refl (omega arith) refl (k .joint) in
+    let two = turn s R (p + 8) (p + 16) (m + 3) (m + 2) (31 * j + x) y (omega arith) (omega arith) refl one in
+    let three = turn s R (p + 16) (p + 24) (m + 2) (m + 1) (31 * (31 * j + x) + y) z (omega arith) (omega arith) refl two in
+    let four = turn s R (p + 24) (p + 32) (m + 1) m (31 * (31 * (31 * j + x) + y) + z) w (omega arith) refl refl three in
+    let shared : 31 * (31 * (31 * (31 * j + x) + y) + z) + w ≡ joined (31 ^ 4 * a + x) (31 ^ 4 * b + y) (31 ^ 4 * c + z) (31 ^ 4 * d + w) = omega arith in
+    let reduced =
+    joined-same e f g h (31 ^ 4 * a + x) (31 ^ 4 * b + y) (31 ^ 4 * c + z) (31 ^ 4 * d + w) (same e (31 ^ 4 * a + x) ee) (same f (31 ^ 4 * b + y) ef)
+    (same g (31 ^ 4 * c + z) eg) (same h (31 ^ 4 * d + w) eh) in
+    let now = reduced ∙ sym (ap (λ (v : ℕ). v % 2 ^ 64) shared) in
+    record { joint = record { room = four .room; rest = ap (λ (v : ℕ). checkFrom v (wordsOf m (drop (p + 32) s))) now ∙ four .rest } }
+
+-- the chains joined, where no word is left
+pub chains-end : (s : List ℕ) (R p n a b c d x y r : ℕ) → Chains s R p n a b c d → n ≤ 0
+    → x ≡ (31 * a + b) % 2 ^ 64 → y ≡ (31 * x + c) % 2 ^ 64 → r ≡ (31 * y + d) % 2 ^ 64 → r ≡ R
+unfolding checkFrom wordsOf joined
+chains-end s R p zero a b c d x y r h l e f g =
+    g ∙ step-same y (31 * (31 * a + b) + c) d d (same y (31 * x + c) f ∙ step-same x (31 * a + b) c c (same x (31 * a + b) e) refl) refl ∙ h .joint .rest
+chains-end s R p (suc n) a b c d x y r h l e f g = absurd (not-suc-le-zero l)
+
+pub ruleset sums = (needs, chain-step-is, chains-start, chains-turn, chains-end)

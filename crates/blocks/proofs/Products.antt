@@ -1,26 +1,7 @@
--- Laws of the check's arithmetic: 31 times a number by five doublings, and a product from halves. Assumes nothing.
-use mathlib.Core.Path.{_≡_, refl, sym, ap, _∙_, subst⁻¹}
-use Prim.Native.Nat.{ℕ, _+_, _*_, _/_, _%_, _^_, _<_}
-use native.Mathlib.Nat.{le-of-lt, lt-of-le-of-lt, mul-le-mul-left, mul-lt-mul-of-pos-right, mul-add, add-mul, mul-assoc, mul-comm, mul-left-comm, add-assoc, add-comm, add-left-comm}
+-- The law of 31 times a number by five doublings. Assumes nothing.
+use mathlib.Core.Path.{_≡_, ap, _∙_}
+use Prim.Native.Nat.{ℕ, _+_, _*_, _%_, _^_, _<_}
 use native.Mathlib.Omega.{arith}
-use lib.Pow.{pow-pos, pow-add, split}
-
-pub below : (k : ℕ) {a b : ℕ} → a < 2 ^ k → b < 2 ^ k → a * b < 2 ^ (k + k)
-below k {a} {b} ha hb =
-    subst⁻¹ (λ (n : ℕ). a * b < n) (pow-add 2 k k)
-    (lt-of-le-of-lt (mul-le-mul-left a (le-of-lt hb)) (mul-lt-mul-of-pos-right ha (pow-pos k)))
-
-columns : (P a₀ a₁ b₀ b₁ : ℕ) → (a₁ * P + a₀) * (b₁ * P + b₀) ≡ a₁ * b₁ * (P * P) + (a₁ * b₀ + a₀ * b₁) * P + a₀ * b₀
-columns P a₀ a₁ b₀ b₁ = simp (mul-add, add-mul, mul-assoc, mul-comm, mul-left-comm, add-assoc, add-comm, add-left-comm) refl
-
--- x y modulo 2 ^ 64 from the halves' products: the low one, and the cross ones' sum c modulo 2 ^ 64, moved up
-pub product-law : (x y c : ℕ) → c ≡ (x / 2 ^ 32 * (y % 2 ^ 32) + x % 2 ^ 32 * (y / 2 ^ 32)) % 2 ^ 64
-    → ((x % 2 ^ 32) * (y % 2 ^ 32) + (c * 2 ^ 32) % 2 ^ 64) % 2 ^ 64 ≡ (x * y) % 2 ^ 64
-product-law x y c e =
-    let s : x * y ≡ (x / 2 ^ 32 * 2 ^ 32 + x % 2 ^ 32) * (y / 2 ^ 32 * 2 ^ 32 + y % 2 ^ 32) =
-    λ i. sym (split x 32) i * sym (split y 32) i in
-    let h = s ∙ columns (2 ^ 32) (x % 2 ^ 32) (x / 2 ^ 32) (y % 2 ^ 32) (y / 2 ^ 32) in
-    omega (arith, h)
 
 -- five doublings, modulo 2 ^ 64, and x off 32 x
 doubled : (y a b : ℕ) → a ≡ y % 2 ^ 64 → b ≡ (a + a) % 2 ^ 64 → b ≡ (y + y) % 2 ^ 64

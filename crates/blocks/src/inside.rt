@@ -74,14 +74,7 @@ pub fn check(image: &[u8], k: usize) -> u64
     requires { ⌜ 512 * (k + 1) ≤ length (now image) ⌝ }
     ensures { λ r. ⌜ r ≡ checkOf (blockOf (now (image .entry)) k) ⌝ }
 {
-    crate::sums::by_table(image, 512 * k)
-}
-
-pub fn check_by_steps(image: &[u8], k: usize) -> u64
-    requires { ⌜ 512 * (k + 1) ≤ length (now image) ⌝ }
-    ensures { λ r. ⌜ r ≡ checkOf (blockOf (now (image .entry)) k) ⌝ }
-{
-    crate::sums::by_steps(image, 512 * k)
+    crate::sums::by_chains(image, 512 * k)
 }
 
 // The check that a block stores is the one that it ought to have.

@@ -33,14 +33,3 @@ pub fn block_check(image: &[u8], k: usize) -> Number
         Number::NoBlock
     }
 }
-
-// The same, step by step.
-pub fn stepped_check(image: &[u8], k: usize) -> Number
-    ensures { λ r. ⌜ numberIn r ≡ ofBlock (now (image .entry)) k checkOf ⌝ }
-{
-    if has_block(image, k) {
-        Number::Is(inside::check_by_steps(image, k))
-    } else {
-        Number::NoBlock
-    }
-}

@@ -25,17 +25,6 @@ pub extern "C" fn bm_block_check(image: &[u8], k: usize) -> u64
     }
 }
 
-// The same, step by step.
-#[no_mangle]
-pub extern "C" fn bm_stepped_check(image: &[u8], k: usize) -> u64
-    ensures { λ r. ⌜ r ≡ orZero (ofBlock (now (image .entry)) k checkOf) ⌝ }
-{
-    match blocks::stepped_check(image, k) {
-        Number::Is(c) => c,
-        Number::NoBlock => 0,
-    }
-}
-
 // The model's refusal: 0 where there is none.
 #[no_mangle]
 pub extern "C" fn bm_read_model(image: &[u8]) -> u64
