@@ -58,59 +58,59 @@ turn s R p q m n c w e f g h =
 
 -- ---- in four chains
 
--- the four chains, joined by three steps
-unfoldable pub joined : ℕ → ℕ → ℕ → ℕ → ℕ
-joined a b c d = 31 * (31 * (31 * a + b) + c) + d
+-- the check of the words that four chains have: the chains joined by three steps
+unfoldable pub ofChains : ℕ → ℕ → ℕ → ℕ → ℕ
+ofChains a b c d = 31 * (31 * (31 * a + b) + c) + d
 
 -- n turns of four words to go
 pub record Chains (s : List ℕ) (R p n a b c d : ℕ) : Type 0 where
-  pub joint : ToGo s R p (4 * n) (joined a b c d)
+  pub check : ToGo s R p (4 * n) (ofChains a b c d)
 
-joined-same : (a b c d x y z w : ℕ) → Same a x → Same b y → Same c z → Same d w → Same (joined a b c d) (joined x y z w)
-unfolding joined
-joined-same a b c d x y z w e f g h =
+of-chains-same : (a b c d x y z w : ℕ) → Same a x → Same b y → Same c z → Same d w → Same (ofChains a b c d) (ofChains x y z w)
+unfolding ofChains
+of-chains-same a b c d x y z w e f g h =
     step-same (31 * (31 * a + b) + c) (31 * (31 * x + y) + z) d w (step-same (31 * a + b) (31 * x + y) c z (step-same a x b y e f) g) h
 
 -- the 1 of the start and the first three words
 pub chains-start : (s : List ℕ) (at b c d : ℕ) → at + 504 ≤ length s → b ≡ wordAt s at → c ≡ wordAt s (at + 8) → d ≡ wordAt s (at + 16)
     → Chains s (checkFrom 1 (wordsOf 63 (drop at s))) (at + 24) 15 1 b c d
-unfolding joined
+unfolding ofChains
 chains-start s at b c d h e f g =
     let R = checkFrom 1 (wordsOf 63 (drop at s)) in
     let none : ToGo s R at 63 1 = record { room = h; rest = refl } in
     let one = turn s R at (at + 8) 63 62 1 b refl refl e none in
     let two = turn s R (at + 8) (at + 16) 62 61 (31 * 1 + b) c (omega arith) refl f one in
-    record { joint = turn s R (at + 16) (at + 24) 61 60 (31 * (31 * 1 + b) + c) d (omega arith) refl g two }
+    record { check = turn s R (at + 16) (at + 24) 61 60 (31 * (31 * 1 + b) + c) d (omega arith) refl g two }
 
 -- four words more, one to a chain
 pub chains-turn : (s : List ℕ) (R p n a b c d e f g h : ℕ) → Chains s R p n a b c d → 0 < n
     → e ≡ (31 ^ 4 * a + wordAt s p) % 2 ^ 64 → f ≡ (31 ^ 4 * b + wordAt s (p + 8)) % 2 ^ 64 → g ≡ (31 ^ 4 * c + wordAt s (p + 16)) % 2 ^ 64
     → h ≡ (31 ^ 4 * d + wordAt s (p + 24)) % 2 ^ 64 → Chains s R (p + 32) (n - 1) e f g h
-unfolding joined
+unfolding ofChains
 chains-turn s R p n a b c d e f g h k l ee ef eg eh =
     let m = 4 * (n - 1) in
-    let j = joined a b c d in
+    let j = ofChains a b c d in
     let x = wordAt s p in
     let y = wordAt s (p + 8) in
     let z = wordAt s (p + 16) in
     let w = wordAt s (p + 24) in
-    let one = turn s R p (p + 8) (4 * n) (m + 3) j x refl (omega arith) refl (k .joint) in
+    let one = turn s R p (p + 8) (4 * n) (m + 3) j x refl (omega arith) refl (k .check) in
     let two = turn s R (p + 8) (p + 16) (m + 3) (m + 2) (31 * j + x) y (omega arith) (omega arith) refl one in
     let three = turn s R (p + 16) (p + 24) (m + 2) (m + 1) (31 * (31 * j + x) + y) z (omega arith) (omega arith) refl two in
     let four = turn s R (p + 24) (p + 32) (m + 1) m (31 * (31 * (31 * j + x) + y) + z) w (omega arith) refl refl three in
-    let shared : 31 * (31 * (31 * (31 * j + x) + y) + z) + w ≡ joined (31 ^ 4 * a + x) (31 ^ 4 * b + y) (31 ^ 4 * c + z) (31 ^ 4 * d + w) = omega arith in
+    let shared : 31 * (31 * (31 * (31 * j + x) + y) + z) + w ≡ ofChains (31 ^ 4 * a + x) (31 ^ 4 * b + y) (31 ^ 4 * c + z) (31 ^ 4 * d + w) = omega arith in
     let reduced =
-    joined-same e f g h (31 ^ 4 * a + x) (31 ^ 4 * b + y) (31 ^ 4 * c + z) (31 ^ 4 * d + w) (same e (31 ^ 4 * a + x) ee) (same f (31 ^ 4 * b + y) ef)
+    of-chains-same e f g h (31 ^ 4 * a + x) (31 ^ 4 * b + y) (31 ^ 4 * c + z) (31 ^ 4 * d + w) (same e (31 ^ 4 * a + x) ee) (same f (31 ^ 4 * b + y) ef)
     (same g (31 ^ 4 * c + z) eg) (same h (31 ^ 4 * d + w) eh) in
     let now = reduced ∙ sym (ap (λ (v : ℕ). v % 2 ^ 64) shared) in
-    record { joint = record { room = four .room; rest = ap (λ (v : ℕ). checkFrom v (wordsOf m (drop (p + 32) s))) now ∙ four .rest } }
+    record { check = record { room = four .room; rest = ap (λ (v : ℕ). checkFrom v (wordsOf m (drop (p + 32) s))) now ∙ four .rest } }
 
 -- the chains joined, where no word is left
 pub chains-end : (s : List ℕ) (R p n a b c d x y r : ℕ) → Chains s R p n a b c d → n ≤ 0
     → x ≡ (31 * a + b) % 2 ^ 64 → y ≡ (31 * x + c) % 2 ^ 64 → r ≡ (31 * y + d) % 2 ^ 64 → r ≡ R
-unfolding checkFrom wordsOf joined
+unfolding checkFrom wordsOf ofChains
 chains-end s R p zero a b c d x y r h l e f g =
-    g ∙ step-same y (31 * (31 * a + b) + c) d d (same y (31 * x + c) f ∙ step-same x (31 * a + b) c c (same x (31 * a + b) e) refl) refl ∙ h .joint .rest
+    g ∙ step-same y (31 * (31 * a + b) + c) d d (same y (31 * x + c) f ∙ step-same x (31 * a + b) c c (same x (31 * a + b) e) refl) refl ∙ h .check .rest
 chains-end s R p (suc n) a b c d x y r h l e f g = absurd (not-suc-le-zero l)
 
 pub ruleset sums = (needs, chain-step-is, chains-start, chains-turn, chains-end)

@@ -1,4 +1,4 @@
-//! The proved library's calls, their answers packed: those of `brothmaple::packed`, and the two block checks, which nobody but the
+//! The proved library's calls, their answers packed: those of `brothmaple::packed`, and the block check, which nobody but the
 //! comparison and the benchmark calls.
 
 pub use brothmaple::packed::{
@@ -9,19 +9,12 @@ use bm::Move;
 
 unsafe extern "C" {
     fn bm_block_check(image: *const u8, len: usize, k: usize) -> u64;
-    fn bm_stepped_check(image: *const u8, len: usize, k: usize) -> u64;
 }
 
-/// The check that block `k` ought to hold, by the table of powers.
+/// The check that block `k` ought to hold.
 pub fn block_check(image: &[u8], k: usize) -> u64 {
     // SAFETY: the slice is valid for its length, and is only read.
     unsafe { bm_block_check(image.as_ptr(), image.len(), k) }
-}
-
-/// The same, step by step.
-pub fn stepped_check(image: &[u8], k: usize) -> u64 {
-    // SAFETY: the slice is valid for its length, and is only read.
-    unsafe { bm_stepped_check(image.as_ptr(), image.len(), k) }
 }
 
 /// A move as the proved library takes it.
