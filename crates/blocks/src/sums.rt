@@ -32,8 +32,8 @@ fn chain_step(c: u64, s: &[u8], p: usize) -> u64
     step(times31(times31(times31(c))), words::word(s, p))
 }
 
-// The check of the 63 words from a place on, in four chains of which none waits for another. With the 1 of the start before them the words are
-// 64: each chain has every fourth, and three steps join the chains.
+// The check of the 63 words from a place on. The 1 of the start counts as a word before them; of these 64 each chain has every fourth, so that
+// no chain waits for another, and three steps join the chains: 31 (31 (31 a + b) + c) + d.
 pub fn by_chains(s: &[u8], at: usize) -> u64
     requires { ⌜ at + 504 ≤ length (now s) ⌝ }
     ensures { λ r. ⌜ r ≡ checkFrom 1 (wordsOf 63 (drop at (now (s .entry)))) ⌝ }
