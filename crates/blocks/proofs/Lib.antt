@@ -1,4 +1,4 @@
-pub mod Products
+pub mod Doublings
 pub mod Loops
 pub mod Blocks
 pub mod Headings

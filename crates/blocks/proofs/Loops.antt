@@ -44,6 +44,7 @@ pub record ToGo (s : List ℕ) (R p n c : ℕ) : Type 0 where
   pub room : p + 8 * n ≤ length s
   pub rest : checkFrom (c % 2 ^ 64) (wordsOf n (drop p s)) ≡ R
 
+-- one word more
 turn : (s : List ℕ) (R p q m n c w : ℕ) → q ≡ p + 8 → m ≡ n + 1 → w ≡ wordAt s p → ToGo s R p m c → ToGo s R q n (31 * c + w)
 turn s R p q m n c w e f g h =
     let here : (31 * c + w) % 2 ^ 64 ≡ (31 * (c % 2 ^ 64) + wordAt s p) % 2 ^ 64 =
