@@ -5,37 +5,11 @@ use Prim.Native.Nat.{ℕ, zero, suc, _+_, _-_, _*_, _%_, _^_, _≤_, _<_}
 use native.Mathlib.Nat.{not-suc-le-zero}
 use native.Mathlib.Omega.{arith}
 use borrow.Author.Needs.{needs}
-use lib.Dec.{lit<}
 use lib.ListN.{length, drop}
 use Rattle.definitions.specs.Words.{wordAt, wordsOf}
 use Rattle.definitions.specs.Check.{checkFrom}
-use Rattle.definitions.proofs.Check.{check-turn, mul-mod-r}
-
--- ---- equal modulo 2 ^ 64
-
-abbrev Same : ℕ → ℕ → Type 0
-Same x y = x % 2 ^ 64 ≡ y % 2 ^ 64
-
-same : (x y : ℕ) → x ≡ y % 2 ^ 64 → Same x y
-same x y e = omega arith
-
-add-same : (x y v w : ℕ) → Same x y → Same v w → Same (x + v) (y + w)
-add-same x y v w e f = omega arith
-
-times31-same : (x y : ℕ) → Same x y → Same (31 * x) (31 * y)
-times31-same x y e = sym (mul-mod-r 31 x (2 ^ 64)) ∙ ap (λ (u : ℕ). (31 * u) % 2 ^ 64) e ∙ mul-mod-r 31 y (2 ^ 64)
-
-step-same : (x y v w : ℕ) → Same x y → Same v w → Same (31 * x + v) (31 * y + w)
-step-same x y v w e f = add-same (31 * x) (31 * y) v w (times31-same x y e) f
-
--- three times 31 and a step are 31 ^ 4 and the word
-pub chain-step-is : (c x y z w v r : ℕ) → x ≡ (31 * c) % 2 ^ 64 → y ≡ (31 * x) % 2 ^ 64 → z ≡ (31 * y) % 2 ^ 64 → w ≡ v → r ≡ (31 * z + w) % 2 ^ 64
-    → r ≡ (31 ^ 4 * c + v) % 2 ^ 64
-chain-step-is c x y z w v r e f g k h =
-    let y′ : Same y (31 * (31 * c)) = same y (31 * x) f ∙ times31-same x (31 * c) (same x (31 * c) e) in
-    let z′ : Same z (31 * (31 * (31 * c))) = same z (31 * y) g ∙ times31-same y (31 * (31 * c)) y′ in
-    let r′ = h ∙ step-same z (31 * (31 * (31 * c))) w v z′ (ap (λ (u : ℕ). u % 2 ^ 64) k) in
-    omega (arith, r′)
+use Rattle.definitions.proofs.Check.{check-turn}
+use Rattle.blocks.proofs.Modulo.{Same, same, step-same, chain-step-is}
 
 -- ---- word by word
 

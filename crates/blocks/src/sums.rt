@@ -24,7 +24,7 @@ fn step(c: u64, w: u64) -> u64
     std::num::wrapping_add_u64(times31(c), w)
 }
 
-// A chain with the word at a place more: 31^4 c + w, since three words of the other chains stand between two of its own.
+// The word at a place added to a chain: 31^4 c + w, since three words of the other chains stand between two of its own.
 fn chain_step(c: u64, s: &[u8], p: usize) -> u64
     requires { ⌜ p + 8 ≤ length (now s) ⌝ }
     ensures { λ r. ⌜ r ≡ (31 ^ 4 * c + wordAt (now (s .entry)) p) % 2 ^ 64 ⌝ }

@@ -1,6 +1,6 @@
 -- `blocks::sums::times31` meets its contract: each doubling doubles the factor of x. Assumes nothing.
 use borrow.Author.Needs.{needs}
-use Rattle.blocks.proofs.Doublings.{thirty-one}
+use Rattle.blocks.proofs.Modulo.{thirty-one}
 use Rattle.blocks.proofs.sums.times31.Statement.{statement}
 use Rattle.blocks.proofs.sums.times31.Tie as tie
 
