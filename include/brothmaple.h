@@ -178,8 +178,9 @@ uint64_t bm_start(const uint8_t *model, size_t model_bytes, uint32_t *state, siz
 /*
  * Makes one move in a state.
  * Answers 0 where the move is made; BM_TAG_MODEL where the model is refused; BM_TAG_CALL with 10 (length of
- * the state), 11 (a state that breaks the state rules) or 12 to 20 (the move itself). Where it answers 0
- * the state is the one after the move; where it refuses, the state stays as it was.
+ * the state), 11 (a state that breaks the state rules) or 12 to 20 (the move itself; where it meets
+ * several, the first of 12, 13, 14, 15, 18, 16, 17, 19, 20). Where it answers 0 the state is the one after
+ * the move; where it refuses, the state stays as it was.
  */
 uint64_t bm_step(const uint8_t *model, size_t model_bytes, uint32_t *state, size_t state_words,
                  uint32_t kind, uint32_t box, uint32_t thread, uint32_t box2, uint32_t thread2);

@@ -1,11 +1,11 @@
 -- Laws of the numbers of an inter move, by what the code finds at its two ends. Assumes nothing.
 use mathlib.Core.Path.{_≡_, refl, ap, sym, _∙_}
 use mathlib.Core.Logic.{_≢_}
-use mathlib.Core.Bool.{Bool, true, false}
+use mathlib.Core.Bool.{Bool, true, false, not}
 use mathlib.Core.List.{List, []}
 use Prim.Native.Nat.{ℕ, _≤_, _<_}
 use native.Mathlib.Omega.{arith}
-use lib.Dec.{T}
+use lib.Dec.{T, eqb}
 use Rattle.definitions.specs.Bounded.{_and_, _is_, _isnt_, _below_}
 use Rattle.definitions.specs.Model as model
 use Rattle.definitions.specs.Model.{Box, boxAt, kindOfName, output, input}
@@ -18,15 +18,12 @@ use Rattle.definitions.proofs.Image.{model-kinds}
 use Rattle.records.specs.declared.Line.{Line}
 use Rattle.records.specs.Records.{lineIn}
 use Rattle.lookups.specs.Found.{placeOf}
-use Rattle.deciding.specs.Numbers.{passed, channelsNumber, interNumber}
+use Rattle.deciding.specs.Numbers.{passed, isPrivate, siteTests, channelsNumber, interNumber}
 use Rattle.deciding.proofs.Decided.{need-yes, need-no, need-same, found-there, found-at, found-none}
 
--- ---- 16, 17 and 18
+-- ---- 16 and 17
 
-module _ (image r s : List ℕ) (v w x : ℕ) where
-  kinds : List ℕ
-  kinds = modelOf image .kinds
-
+module _ (r s : List ℕ) (v w : ℕ) where
   both : Bool
   both = found (siteWith r v 0) and found (siteWith s w 0)
 
@@ -37,16 +34,16 @@ module _ (image r s : List ℕ) (v w x : ℕ) where
     one : i ≡ placeOf (siteWith r v 0)
     one = d ∙ ap (λ (n : ℕ). placeOf (siteWith r n 0)) e
 
-    pub ends-none : 16 ≤ i → 16 ≡ channelsNumber (modelOf image .kinds) r s v w x
-    unfolding channelsNumber
+    pub ends-none : 16 ≤ i → 16 ≡ outcomeNumber (siteTests r s v w)
+    unfolding siteTests
     ends-none h = need-no (found (siteWith r v 0) and found (siteWith s w 0)) 16 _ (λ t. found-none r v 0 i one h (and-iff (found (siteWith r v 0)) (found (siteWith s w 0)) .0 t .0))
 
     module _ (j c : ℕ) (f : c ≡ w) (g : j ≡ placeOf (siteWith s c 0)) where
       two : j ≡ placeOf (siteWith s w 0)
       two = g ∙ ap (λ (n : ℕ). placeOf (siteWith s n 0)) f
 
-      pub ends-none2 : 16 ≤ j → 16 ≡ channelsNumber (modelOf image .kinds) r s v w x
-      unfolding channelsNumber
+      pub ends-none2 : 16 ≤ j → 16 ≡ outcomeNumber (siteTests r s v w)
+      unfolding siteTests
       ends-none2 h = need-no (found (siteWith r v 0) and found (siteWith s w 0)) 16 _ (λ t. found-none s w 0 j two h (and-iff (found (siteWith r v 0)) (found (siteWith s w 0)) .0 t .1))
 
       module _ (hi : i < 16) (hj : j < 16) (b : Bool) (z : b ≡ typesShare (site r i) (site s j)) where
@@ -60,29 +57,31 @@ module _ (image r s : List ℕ) (v w x : ℕ) where
             z ∙ ap (λ (n : ℕ). typesShare (site r n) (site s j)) (sym (found-at r v 0 i one hi))
             ∙ ap (λ (n : ℕ). typesShare (site r (at (siteWith r v 0))) (site s n)) (sym (found-at s w 0 j two hj))
 
-        pub ends-unfit : b ≡ false → 17 ≡ channelsNumber (modelOf image .kinds) r s v w x
-        unfolding channelsNumber both fit
-        ends-unfit q = need-no fit 17 _ (not-false (sym fits ∙ q)) ∙ sym (need-yes both 16 _ there)
+        pub ends-unfit : b ≡ false → 17 ≡ outcomeNumber (siteTests r s v w)
+        unfolding siteTests both fit
+        ends-unfit q = need-no fit 17 passed (not-false (sym fits ∙ q)) ∙ sym (need-yes both 16 (need fit 17 passed) there)
 
-        module _ (q : b ≡ true) (y n k : ℕ) (ey : y ≡ x) (en : n ≡ heldNumber y) (ek : k ≡ kindOfName (kindsOf image) n) where
-          sent : k ≡ kindOfName (modelOf image .kinds) (heldNumber x)
-          sent =
-              ek ∙ ap (λ (l : List ℕ). kindOfName l n) (sym (model-kinds image)) ∙ ap (kindOfName (modelOf image .kinds)) (en ∙ ap heldNumber ey)
+        pub ends-meet : b ≡ true → 0 ≡ outcomeNumber (siteTests r s v w)
+        unfolding siteTests both fit
+        ends-meet q = sym (need-yes both 16 (need fit 17 passed) there ∙ need-yes fit 17 passed (of-true (sym fits ∙ q)))
 
-          through : {A : Type 0} (o : Outcome A) → outcomeNumber (need both 16 (need fit 17 o)) ≡ outcomeNumber o
-          through o = need-yes both 16 _ there ∙ need-yes fit 17 o (of-true (sym fits ∙ q))
+-- ---- 18, and then the sites
 
-          pub ends-private : k ≡ 1 → 18 ≡ channelsNumber (modelOf image .kinds) r s v w x
-          unfolding channelsNumber both fit
-          ends-private p =
-              need-no (kindOfName (modelOf image .kinds) (heldNumber x) isnt 1) 18 passed
-              (λ t. isnt-iff (kindOfName (modelOf image .kinds) (heldNumber x)) 1 .0 t (sym sent ∙ p)) ∙ sym (through _)
+pub sent-private : (image : List ℕ) (x k n y : ℕ) → k ≡ kindOfName (kindsOf image) n → n ≡ heldNumber y → y ≡ x
+    → eqb k 1 ≡ isPrivate (modelOf image .kinds) x
+unfolding isPrivate _is_
+sent-private image x k n y e d q =
+    ap (λ (i : ℕ). eqb i 1)
+    (e ∙ ap (λ (l : List ℕ). kindOfName l n) (sym (model-kinds image)) ∙ ap (kindOfName (modelOf image .kinds)) (d ∙ ap heldNumber q))
 
-          pub ends-meet : k ≢ 1 → 0 ≡ channelsNumber (modelOf image .kinds) r s v w x
-          unfolding channelsNumber both fit
-          ends-meet p =
-              sym (through _ ∙ need-yes (kindOfName (modelOf image .kinds) (heldNumber x) isnt 1) 18 passed
-              (isnt-iff (kindOfName (modelOf image .kinds) (heldNumber x)) 1 .1 (λ e. p (sent ∙ e))))
+module _ (kinds r s : List ℕ) (v w x : ℕ) (b : Bool) (e : b ≡ isPrivate kinds x) where
+  pub channels-private : b ≡ true → 18 ≡ channelsNumber kinds r s v w x
+  unfolding channelsNumber
+  channels-private q = sym (ap (λ (p : Bool). outcomeNumber (need (not p) 18 (siteTests r s v w))) (sym e ∙ q))
+
+  pub channels-sites : (n : ℕ) → b ≡ false → n ≡ outcomeNumber (siteTests r s v w) → n ≡ channelsNumber kinds r s v w x
+  unfolding channelsNumber
+  channels-sites n q d = d ∙ sym (ap (λ (p : Bool). outcomeNumber (need (not p) 18 (siteTests r s v w))) (sym e ∙ q))
 
 -- ---- 14, and then the channels
 
@@ -105,13 +104,13 @@ module _ (kinds : List ℕ) (x : Box) (r : List ℕ) (y : Box) (s : List ℕ) (t
     pub between-number : (n : ℕ) → l .op ≡ 5 → k .op ≡ 4
         → n ≡ channelsNumber kinds r s (valueIn kinds (thread r t) (l .name1 .0)) (valueIn kinds (thread s u) (k .name1 .0)) (valueIn kinds (thread s u) (k .name2 .0))
         → n ≡ outcomeNumber (interMove kinds x r y s t u)
-    unfolding interMove channelsNumber value1 value2
+    unfolding interMove channelsNumber siteTests isPrivate value1 value2 _is_ _isnt_
     between-number n lop kop e =
         e ∙ ap (λ (m : model.Line). number (valueIn kinds (thread r t) (m .name1)) (valueIn kinds (thread s u) (k .name1 .0)) (valueIn kinds (thread s u) (k .name2 .0))) q
         ∙ ap (λ (m : model.Line). number (value1 kinds x r t) (valueIn kinds (thread s u) (m .name1)) (valueIn kinds (thread s u) (m .name2))) p
-        ∙ need-same sited 16 (need meet 17 (need public 18 passed)) (need meet 17 (need public 18 (made ends)))
-        (need-same meet 17 (need public 18 passed) (need public 18 (made ends)) (need-same public 18 passed (made ends) refl))
-        ∙ sym (need-yes (threadLine kinds x r t .op is input and threadLine kinds y s u .op is output) 14 (need sited 16 (need meet 17 (need public 18 (made ends)))) ops)
+        ∙ need-same public 18 (need sited 16 (need meet 17 passed)) (need sited 16 (need meet 17 (made ends)))
+        (need-same sited 16 (need meet 17 passed) (need meet 17 (made ends)) (need-same meet 17 passed (made ends) refl))
+        ∙ sym (need-yes (threadLine kinds x r t .op is input and threadLine kinds y s u .op is output) 14 (need public 18 (need sited 16 (need meet 17 (made ends)))) ops)
       where
         number : ℕ → ℕ → ℕ → ℕ
         number v w z = channelsNumber kinds r s v w z

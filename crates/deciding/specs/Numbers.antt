@@ -1,6 +1,6 @@
 -- The number with which a move is refused, or 0, in the pieces that are decided one after the other. Assumes nothing.
 use mathlib.Core.Path.{_≡_}
-use mathlib.Core.Bool.{Bool, true, false}
+use mathlib.Core.Bool.{Bool, true, false, not}
 use mathlib.Core.List.{List, []}
 use mathlib.Core.Option.{none}
 use Prim.Native.Nat.{ℕ, _≤_, _<_}
@@ -41,13 +41,20 @@ channelNumber kinds x r t u =
     outcomeNumber (need (threadLine kinds x r t .op is input and threadLine kinds x r u .op is output) 14
     (need (value1 kinds x r t is value1 kinds x r u) 15 passed))
 
--- inter, once both threads are at their lines: the channels v and w, the records that they are of, and the name sent
-unfoldable pub channelsNumber : List ℕ → List ℕ → List ℕ → ℕ → ℕ → ℕ → ℕ
-channelsNumber kinds r s v w sent =
+-- inter: the held name that is sent is of kind 1
+unfoldable pub isPrivate : List ℕ → ℕ → Bool
+isPrivate kinds sent = kindOfName kinds (heldNumber sent) is 1
+
+-- inter: the channels v and w, and the records that they are of; 16 no site, 17 unfit
+unfoldable pub siteTests : List ℕ → List ℕ → ℕ → ℕ → Outcome (List ℕ)
+siteTests r s v w =
     let i = siteWith r v 0 in
     let j = siteWith s w 0 in
-    outcomeNumber (need (found i and found j) 16
-    (need (typesShare (site r (at i)) (site s (at j))) 17 (need (kindOfName kinds (heldNumber sent) isnt 1) 18 passed)))
+    need (found i and found j) 16 (need (typesShare (site r (at i)) (site s (at j))) 17 passed)
+
+-- inter, once both threads are at their lines: 18 private, and then the sites
+unfoldable pub channelsNumber : List ℕ → List ℕ → List ℕ → ℕ → ℕ → ℕ → ℕ
+channelsNumber kinds r s v w sent = outcomeNumber (need (not (isPrivate kinds sent)) 18 (siteTests r s v w))
 
 -- inter between box b with contents x and record r and box c with contents y and record s, which are both there
 unfoldable pub interNumber : List ℕ → Box → List ℕ → Box → List ℕ → ℕ → ℕ → ℕ → ℕ → ℕ
@@ -58,16 +65,15 @@ interNumber kinds x r y s b t c u =
 abbrev pub moveOf : ℕ → ℕ → ℕ → ℕ → ℕ → Move
 moveOf kind b t c u = record { kind = kind; box = b; thread = t; box2 = c; thread2 = u }
 
--- what is asked of both ends of an inter move whose lines name the channels p and q and the name that is sent
-pub record EndsReady (image r : List ℕ) (t p : ℕ) (s : List ℕ) (u q sent : ℕ) : Type 0 where
+-- what is asked of an end of an inter move: thread t of record r, whose line names p
+pub record EndReady (image r : List ℕ) (t p : ℕ) : Type 0 where
   pub read : readModel image ≡ none
   pub long : length r ≡ recordLength
-  pub long2 : length s ≡ recordLength
   pub most : sites r ≤ slotLimit
-  pub most2 : sites s ≤ slotLimit
   pub slot : t < slotLimit
-  pub slot2 : u < slotLimit
-  pub channel : p < nameCount image
-  pub channel2 : q < nameCount image
-  pub sentListed : sent < nameCount image
+  pub listed : p < nameCount image
+
+-- the same of the end that sends, and what it sends is a listed name
+pub record SentReady (image s : List ℕ) (u sent : ℕ) : Type 0 where
+  pub end : EndReady image s u sent
   pub valueListed : heldNumber (valueIn (modelOf image .kinds) (thread s u) sent) < nameCount image

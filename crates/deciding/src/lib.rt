@@ -11,14 +11,43 @@ ghost use Rattle.definitions.specs.Record as words;
 ghost use Rattle.definitions.specs.Moves as moves;
 ghost use Rattle.definitions.specs.Calls.{outcomeNumber};
 ghost use Rattle.lookups.specs.Ready.{BoxReady, Ready};
-ghost use Rattle.deciding.specs.Numbers.{channelsNumber, EndsReady, interNumber, moveOf};
+ghost use Rattle.deciding.specs.Numbers.{isPrivate, siteTests, channelsNumber, EndReady, SentReady, interNumber, moveOf};
 use lookups::thread_line;
 use lookups::value;
 use sets::NameNo;
 
 pub mod inside;
 
-// Inter, once both threads are at their lines, which name the channels p and q and the name that is sent: 16 no site, 17 unfit, 18 private.
+// Inter: the name that thread u would send is of kind 1.
+fn private(model: &[u8], s: &[u32], u: usize, sent: NameNo) -> bool
+    requires { ⌜ SentReady (now model) (now s) u (sent .0) ⌝ }
+    ensures { λ b. ⌜ b ≡ isPrivate (modelOf (now (model .entry)) .kinds) (moves.valueIn (modelOf (now (model .entry)) .kinds) (words.thread (now (s .entry)) u) (sent .0)) ⌝ }
+{
+    let v = value(model, s, u, sent);
+    records::inside::kind(model, state::number(v)) == 1
+}
+
+// Inter: what the channels p and q stand for are shown sites of their own boxes, whose types share a held name: 16 no site, 17 unfit.
+fn sites(model: &[u8], r: &[u32], t: usize, p: NameNo, s: &[u32], u: usize, q: NameNo) -> u8
+    requires { ⌜ EndReady (now model) (now r) t (p .0) × EndReady (now model) (now s) u (q .0) ⌝ }
+    ensures { λ n. ⌜ n ≡ outcomeNumber (siteTests (now (r .entry)) (now (s .entry)) (moves.valueIn (modelOf (now (model .entry)) .kinds) (words.thread (now (r .entry)) t) (p .0)) (moves.valueIn (modelOf (now (model .entry)) .kinds) (words.thread (now (s .entry)) u) (q .0))) ⌝ }
+{
+    let i = lookups::site_with(r, value(model, r, t, p), 0);
+    if 16 <= i {
+        return 16;
+    }
+    let j = lookups::site_with(s, value(model, s, u, q), 0);
+    if 16 <= j {
+        return 16;
+    }
+    if lookups::types_share(r, i, s, j) {
+        0
+    } else {
+        17
+    }
+}
+
+// Inter, once both threads are at their lines, which name the channels p and q and the name that is sent: 18 private, and then the sites.
 fn channels(
     model: &[u8],
     r: &[u32],
@@ -29,26 +58,13 @@ fn channels(
     q: NameNo,
     sent: NameNo,
 ) -> u8
-    requires { ⌜ EndsReady (now model) (now r) t (p .0) (now s) u (q .0) (sent .0) ⌝ }
+    requires { ⌜ EndReady (now model) (now r) t (p .0) × EndReady (now model) (now s) u (q .0) × SentReady (now model) (now s) u (sent .0) ⌝ }
     ensures { λ n. ⌜ n ≡ channelsNumber (modelOf (now (model .entry)) .kinds) (now (r .entry)) (now (s .entry)) (moves.valueIn (modelOf (now (model .entry)) .kinds) (words.thread (now (r .entry)) t) (p .0)) (moves.valueIn (modelOf (now (model .entry)) .kinds) (words.thread (now (s .entry)) u) (q .0)) (moves.valueIn (modelOf (now (model .entry)) .kinds) (words.thread (now (s .entry)) u) (sent .0)) ⌝ }
 {
-    let i = lookups::site_with(r, value(model, r, t, p), 0);
-    if 16 <= i {
-        return 16;
+    if private(model, s, u, sent) {
+        return 18;
     }
-    let j = lookups::site_with(s, value(model, s, u, q), 0);
-    if 16 <= j {
-        return 16;
-    }
-    if !lookups::types_share(r, i, s, j) {
-        return 17;
-    }
-    let v = value(model, s, u, sent);
-    if records::inside::kind(model, state::number(v)) == 1 {
-        18
-    } else {
-        0
-    }
+    sites(model, r, t, p, s, u, q)
 }
 
 // Inter between different boxes, both of whose threads are there: 14 wrong line, and then the channels.

@@ -178,11 +178,11 @@ module _ (kinds : List ℕ) (x : Box) (r : List ℕ) (y : Box) (s : List ℕ) wh
       let i = siteWith r (value1 kinds x r t) 0 in
       let j = siteWith s (value1 kinds y s u) 0 in
       let a = need-made (threadLine kinds x r t .op is opInput and threadLine kinds y s u .op is opOutput) _ _ e z in
-      let b = need-made (found i and found j) _ _ e (a .1) in
-      let c = need-made (typesShare (site r (at i)) (site s (at j))) _ _ e (b .1) in
-      let d = need-made (kindOfName kinds (heldNumber (value2 kinds y s u)) isnt 1) _ _ e (c .1) in
+      let b = need-made (kindOfName kinds (heldNumber (value2 kinds y s u)) isnt 1) _ _ e (a .1) in
+      let c = need-made (found i and found j) _ _ e (b .1) in
+      let d = need-made (typesShare (site r (at i)) (site s (at j))) _ _ e (c .1) in
       let ops = simp tests at (a .0) in
-      let both = simp tests at (b .0) in
+      let both = simp tests at (c .0) in
       let q = made-same (d .1) in
       record {
         opIs = ops .0;
@@ -191,8 +191,8 @@ module _ (kinds : List ℕ) (x : Box) (r : List ℕ) (y : Box) (s : List ℕ) wh
         siteOut = at j;
         foundIn = site-found r (value1 kinds x r t) 0 (at i) (found-at i (both .0));
         foundOut = site-found s (value1 kinds y s u) 0 (at j) (found-at j (both .1));
-        share = c .0;
-        notPrivate = simp tests at (d .0);
+        share = d .0;
+        notPrivate = simp tests at (b .0);
         inputLeaves = ap (λ (k : Ends). k .input) (sym q);
         outputLeaves = ap (λ (k : Ends). k .output) (sym q);
       }

@@ -1,11 +1,13 @@
--- When a move gets each of 12 to 20: a move is refused with n exactly when it meets n and no lower number. Assumes nothing.
+-- When a move gets each of 12 to 20: a move is refused with n exactly when n is the first number, in the order of the tests, that it
+-- meets. Assumes nothing.
 use mathlib.Core.Path.{_≡_, refl, sym, ap, subst, _∙_}
 use mathlib.Core.Bool.{Bool, true, false, not}
-use mathlib.Core.List.{List}
+use mathlib.Core.List.{List, [], _∷_}
 use mathlib.Core.Logic.{_↔_}
 use mathlib.Core.Option.{Option, none, some}
 use Prim.Native.Nat.{ℕ, _<_}
 use lib.Dec.{T}
+use lib.ListN.{getD}
 use Rattle.definitions.specs.Bounded.{_and_, _or_, _is_, _isnt_, _below_, someIf, firstBelow}
 use Rattle.definitions.specs.Limits.{slotLimit}
 use Rattle.definitions.specs.Model.{Model, boxAt, boxCount, kindOfName, nil, parallel, replication, restriction, output as opOutput, input as opInput, expose as opExpose, hide as opHide, unhide as opUnhide}
@@ -13,14 +15,29 @@ use Rattle.definitions.specs.Record.{heldNumber, stampLimit, stamp, thre
 use Rattle.definitions.specs.Moves.{Inside, drop, spread, new, copy, expose, hide, unhide, intra, Kind, inside, inter, unknown, kindOfMove, Move, Outcome, refused, made, need, onMade, siteWith, found, at, typesShare, threadLine, value1, value2, atLine, dropMove, spreadMove, newMove, copyMove, exposeMove, turnMove, intraMove, insideMove, interMove, insideAct, interAct, actAs, act}
 use Rattle.definitions.proofs.Bounded.{first-found, first-stop, each-none, none-each, fault-some, fault-none, none-fault, true-of}
 
--- the first number from 12 to 20 that is met, given which of them are
+-- whether number n, from 12 to 20, is met, given which of them are
 unfoldable pub meets : Bool → Bool → Bool → Bool → Bool → Bool → Bool → Bool → Bool → ℕ → Bool
 meets nobody self wrongLine channel noSite unfit private full spent n =
     (n is 12 and nobody) or (n is 13 and self) or (n is 14 and wrongLine) or (n is 15 and channel) or (n is 16 and noSite)
     or (n is 17 and unfit) or (n is 18 and private) or (n is 19 and full) or (n is 20 and spent)
 
+-- the order of a move's tests: 12 to 20 ascending, but 18 before 16 and 17; the number at place i
+abbrev pub order : List ℕ
+order = 12 ∷ 13 ∷ 14 ∷ 15 ∷ 18 ∷ 16 ∷ 17 ∷ 19 ∷ 20 ∷ []
+
+abbrev pub testAt : ℕ → ℕ
+testAt i = getD order i 0
+
+-- the first number in that order that is met
 abbrev pub first : (ℕ → Bool) → Option ℕ
-first met = firstBelow 21 (λ n. someIf (met n) n)
+first met = firstBelow 9 (λ i. someIf (met (testAt i)) (testAt i))
+
+pub record FirstMet (met : ℕ → Bool) (n : ℕ) : Type 0 where
+  pub place : ℕ
+  pub listed : place < 9
+  pub isAt : testAt place ≡ n
+  pub isMet : T (met n)
+  pub noneBefore : (k : ℕ) → k < place → T (met (testAt k)) → ⊥
 
 abbrev pub refusedWith : {A : Type 0} → Outcome A → Option ℕ
 refusedWith (refused n) = some n
@@ -83,14 +100,14 @@ module _ {A B : Type 0} (f : A → B) (w : A) where
   intra-first true true true true false = refl
   intra-first true true true true true = refl
 
-  inter-first : (b d l n h p : Bool) → refusedWith (need b 12 (need d 13 (onMade f (need l 14 (need n 16 (need h 17 (need p 18 (made w))))))))
-      ≡ first (meets (not b) (not d) (not l) false (not n) (not h) (not p) false false)
+  inter-first : (b d l p n h : Bool) → refusedWith (need b 12 (need d 13 (onMade f (need l 14 (need p 18 (need n 16 (need h 17 (made w))))))))
+      ≡ first (meets (not b) (not d) (not l) false (not n) (n and not h) (not p) false false)
   unfolding firstBelow meets _and_ _or_ _is_
-  inter-first false d l n h p = refl
-  inter-first true false l n h p = refl
-  inter-first true true false n h p = refl
-  inter-first true true true false h p = refl
-  inter-first true true true true false p = refl
+  inter-first false d l p n h = refl
+  inter-first true false l p n h = refl
+  inter-first true true false p n h = refl
+  inter-first true true true false n h = refl
+  inter-first true true true true false h = refl
   inter-first true true true true true false = refl
   inter-first true true true true true true = refl
 
@@ -197,10 +214,12 @@ module _ (m : Model) (st : List ℕ) (v : Move) where
   noSite inter = not (found (siteWith r (channelIn t) 0) and found (siteWith s (channelAt u) 0))
   noSite unknown = false
 
-  -- 17 inter: the types share no held name
+  -- 17 inter: both sites are there, and their types share no held name
   abbrev pub unfit : Kind → Bool
   unfit (inside k) = false
-  unfit inter = not (typesShare (site r (at (siteWith r (channelIn t) 0))) (site s (at (siteWith s (channelAt u) 0))))
+  unfit inter =
+      (found (siteWith r (channelIn t) 0) and found (siteWith s (channelAt u) 0))
+      and not (typesShare (site r (at (siteWith r (channelIn t) 0))) (site s (at (siteWith s (channelAt u) 0))))
   unfit unknown = false
 
   -- 18 inter: the name sent is of kind 1
@@ -259,32 +278,37 @@ module _ (m : Model) (st : List ℕ) (v : Move) where
       (opIn t is opInput and opIn u is opOutput) (channelIn t is channelIn u)
   first-as inter =
       inter-first _ _ (b below boxCount m and c below boxCount m and t below threads r and u below threads s) (b isnt c)
-      (opIn t is opInput and opAt u is opOutput) (found (siteWith r (channelIn t) 0) and found (siteWith s (channelAt u) 0))
+      (opIn t is opInput and opAt u is opOutput) (kindOfName (m .kinds) (heldNumber (value2 (m .kinds) (boxAt m c) s u)) isnt 1)
+      (found (siteWith r (channelIn t) 0) and found (siteWith s (channelAt u) 0))
       (typesShare (site r (at (siteWith r (channelIn t) 0))) (site s (at (siteWith s (channelAt u) 0))))
-      (kindOfName (m .kinds) (heldNumber (value2 (m .kinds) (boxAt m c) s u)) isnt 1)
   first-as unknown = unknown-first
 
-  -- 12 to 20 ascending
   pub move-first : refusedWith (act m st v) ≡ first met
   unfolding act met
   move-first = first-as (kindOfMove (v .kind))
 
-  -- a move is refused with n exactly when it meets n and no lower number
-  pub refused-iff : (n : ℕ) → (act m st v ≡ refused n) ↔ ((n < 21) × T (met n) × ((k : ℕ) → k < n → T (met k) → ⊥))
+  -- a move is refused with n exactly when n is the first number, in the order of the tests, that it meets
+  pub refused-iff : (n : ℕ) → (act m st v ≡ refused n) ↔ FirstMet met n
   refused-iff n = (out, back)
     where
       test : ℕ → Option ℕ
-      test k = someIf (met k) k
+      test i = someIf (met (testAt i)) (testAt i)
 
-      out : act m st v ≡ refused n → (n < 21) × T (met n) × ((k : ℕ) → k < n → T (met k) → ⊥)
+      out : act m st v ≡ refused n → FirstMet met n
       out e =
-          let x = first-found test 21 n (sym move-first ∙ ap refusedWith e) in
-          let y = fault-some (met (x .0)) (x .0) n (x .2) in
-          subst (λ (i : ℕ). (i < 21) × T (met i) × ((k : ℕ) → k < i → T (met k) → ⊥)) (y .1)
-          (x .1, y .0, λ k l. fault-none (met k) k (none-each test (x .0) (x .3) k l))
+          let x = first-found test 9 n (sym move-first ∙ ap refusedWith e) in
+          let y = fault-some (met (testAt (x .0))) (testAt (x .0)) n (x .2) in
+          record {
+            place = x .0;
+            listed = x .1;
+            isAt = y .1;
+            isMet = subst (λ (i : ℕ). T (met i)) (y .1) (y .0);
+            noneBefore = λ k l. fault-none (met (testAt k)) (testAt k) (none-each test (x .0) (x .3) k l);
+          }
 
-      back : (n < 21) × T (met n) × ((k : ℕ) → k < n → T (met k) → ⊥) → act m st v ≡ refused n
+      back : FirstMet met n → act m st v ≡ refused n
       back p =
           some-refused (act m st v) n
           (move-first
-          ∙ first-stop test 21 (p .0) (each-none test n (λ k l. none-fault (met k) k (p .2 k l))) (ap (λ (x : Bool). someIf x n) (true-of (met n) (p .1))))
+          ∙ first-stop test 9 (p .listed) (each-none test (p .place) (λ k l. none-fault (met (testAt k)) (testAt k) (p .noneBefore k l)))
+          (ap (λ (i : ℕ). someIf (met i) i) (p .isAt) ∙ ap (λ (x : Bool). someIf x n) (true-of (met n) (p .isMet))))

@@ -158,8 +158,8 @@ module _ (kinds : List ℕ) where
     insideMove unhide t u = turnMove opUnhide 1 0 t
     insideMove intra t u = intraMove t u
 
-  -- 9 inter, the input end first: thread t of the box x with record r, thread u of the box y with record s; 14 wrong line, 16 no
-  -- site, 17 unfit, 18 private
+  -- 9 inter, the input end first: thread t of the box x with record r, thread u of the box y with record s; 14 wrong line, 18
+  -- private, 16 no site, 17 unfit
   module _ (x : Box) (r : List ℕ) (y : Box) (s : List ℕ) where
     unfoldable pub interMove : ℕ → ℕ → Outcome Ends
     interMove t u =
@@ -167,9 +167,9 @@ module _ (kinds : List ℕ) where
         let j = siteWith s (value1 y s u) 0 in
         let sent = value2 y s u in
         need (threadLine x r t .op is opInput and threadLine y s u .op is opOutput) 14
+        (need (kindOfName kinds (heldNumber sent) isnt 1) 18
         (need (found i and found j) 16
         (need (typesShare (site r (at i)) (site s (at j))) 17
-        (need (kindOfName kinds (heldNumber sent) isnt 1) 18
         (made (record {
           input = putThread r t (onwardWith x r t (threadLine x r t .name2) sent);
           output = putThread s u (onward y s u);

@@ -221,7 +221,7 @@ module _ {image : List ℕ} {places : ℕ} {st : List ℕ} (k : Ready image plac
 -- no move is refused with 0
 pub never-zero : (image st : List ℕ) (v : Move) → act (modelOf image) st v ≡ refused 0 → ⊥
 unfolding met metAs meets _is_ _and_ _or_
-never-zero image st v e = refused-iff (modelOf image) st v 0 .0 e .1
+never-zero image st v e = refused-iff (modelOf image) st v 0 .0 e .isMet
 
 module _ {image : List ℕ} {places : ℕ} {st : List ℕ} (k : Ready image places st) (kind b t c u n : ℕ) (e : n ≡ outcomeNumber (act (modelOf image) st (moveOf kind b t c u))) where
   pub turn-made : n ≡ 0 → IsMade (act (modelOf image) st (moveOf kind b t c u))

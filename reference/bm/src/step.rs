@@ -167,23 +167,39 @@ impl<'a> Session<'a> {
         Ok(pass.effect)
     }
 
-    /// Kind 9: a thread of each of two boxes, through their sites.
+    /// Kind 9: a thread of each of two boxes, through their sites. Refusals
+    /// in the order 12, 13, 14, 18, 16, 17.
     fn plan_inter(&self, mv: Move) -> Result<Effect, Cause> {
+        let crossing = self.crossing(mv)?;
+        self.may_leave(crossing.pass.sent)?;
+        crossing.sites_fit()?;
+        Ok(crossing.pass.effect)
+    }
+
+    /// Whether an inter move meets 18, and whether it meets 16 or 17, each
+    /// looked at by itself; none of them where it meets 12, 13 or 14.
+    pub fn inter_causes(&self, mv: Move) -> Vec<Cause> {
+        let Ok(crossing) = self.crossing(mv) else {
+            return Vec::new();
+        };
+        let tests = [self.may_leave(crossing.pass.sent), crossing.sites_fit()];
+        tests.into_iter().filter_map(Result::err).collect()
+    }
+
+    /// The two ends of an inter move: refusals 12, 13 and 14.
+    fn crossing(&self, mv: Move) -> Result<Crossing<'_>, Cause> {
         let input = self.end(mv.box_no, mv.thread)?;
         let output = self.end(mv.second_box, mv.second_thread)?;
         if mv.box_no == mv.second_box {
             return Err(Cause::OneSelf);
         }
         let pass = Pass::between(&input, &output)?;
-        let one = input.record.shown_type(pass.input_channel).ok_or(Cause::NoSite)?;
-        let other = output.record.shown_type(pass.output_channel).ok_or(Cause::NoSite)?;
-        if !one.iter().any(|held| other.contains(held)) {
-            return Err(Cause::Unfit);
-        }
-        if self.model.kind(pass.sent.name()) == NameKind::Restricted {
-            return Err(Cause::Private);
-        }
-        Ok(pass.effect)
+        Ok(Crossing { input: input.record, output: output.record, pass })
+    }
+
+    /// A restricted name does not leave its box: refusal 18.
+    fn may_leave(&self, sent: Held) -> Result<(), Cause> {
+        allow(self.model.kind(sent.name()) != NameKind::Restricted, Cause::Private)
     }
 
     fn record_mut(&mut self, place: Place) -> RecordMut<'_> {
@@ -312,6 +328,23 @@ impl Pass {
                 after,
             },
         })
+    }
+}
+
+/// A name passed from a box to another.
+struct Crossing<'a> {
+    input: Record<'a>,
+    output: Record<'a>,
+    pass: Pass,
+}
+
+impl Crossing<'_> {
+    /// Both channels are shown sites, and their types share a held name:
+    /// refusals 16 and 17.
+    fn sites_fit(&self) -> Result<(), Cause> {
+        let one = self.input.shown_type(self.pass.input_channel).ok_or(Cause::NoSite)?;
+        let other = self.output.shown_type(self.pass.output_channel).ok_or(Cause::NoSite)?;
+        allow(one.iter().any(|held| other.contains(held)), Cause::Unfit)
     }
 }
 

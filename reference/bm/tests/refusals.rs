@@ -1,10 +1,11 @@
 //! Each refusal, each pair of neighbours in their order, and the edges.
 
 use bm::block::{BLOCK, seal};
-use bm::cases::crafted::{self, REFUSED_MOVES};
+use bm::cases::crafted::{self, PRIVATE_AND_MORE, REFUSED_MOVES, RefusedMove};
 use bm::cases::{k, walk};
 use bm::model::{Line, LineNo};
 use bm::state::{RECORD_WORDS, Record, STATE_WORDS, records};
+use bm::step::Session;
 use bm::write::Draft;
 use bm::{Cause, Model, Move, NameKind, NameNo, NameSet, Refusal, calls};
 
@@ -270,7 +271,7 @@ fn model_before_room_before_spoilt_before_moves() {
 
 #[test]
 fn each_refused_move() {
-    for refused in &REFUSED_MOVES {
+    for refused in REFUSED_MOVES.iter().chain(&PRIVATE_AND_MORE) {
         let image = crafted::image(refused.text);
         let mut words = walk::start(&Model::read(&image).unwrap());
         words[0] = refused.stamp;
@@ -300,8 +301,9 @@ const K: &str = "free x z received y free u v c
 
 fn unchanged(_: &mut [u32]) {}
 
-/// Of 12 to 20, the pairs 15 and 16 and 18 and 19 belong to different kinds
-/// of move, so no move has both. The others are in the next three tests.
+/// The order is 12 to 20 ascending, but 18 before 16 and 17. Of numbers next
+/// to each other in it, 15 and 18, and 17 and 19, belong to different kinds of
+/// move, so no move has both. The others are in the next three tests.
 #[test]
 fn nobody_before_self_before_wrong_line() {
     // 12 and 13: no such thread or box, twice.
@@ -317,25 +319,57 @@ fn nobody_before_self_before_wrong_line() {
     // 14 and 16: an output on no site as the input end.
     let no_site = "free x z u c box site x {c} z<x>.0 box site u {c} u<x>.0";
     assert_eq!(last_answer(no_site, unchanged, &[[9, 0, 0, 1, 0]]), 14);
+    // 14 and 18: an output as the input end, and a restricted name sent.
+    let private = "free x u c restricted n box site x {c} x<u>.0 box site u {c} new n.u<n>.0";
+    let moves = [[3, 1, 0, 0, 0], [9, 0, 0, 1, 0]];
+    assert_eq!(last_answer(private, unchanged, &moves), 14);
 }
 
 #[test]
-fn no_site_before_unfit_before_private() {
-    let ends = |one: &str, other: &str, ty: &str| {
+fn private_before_no_site_before_unfit() {
+    let ends = |one: &str, other: &str, ty: &str, sent: &str| {
         let text = format!(
             "free x u v c d received y restricted n
-            box {one} x {{c}} x(y).0 box {other} u {{{ty}}} new n.u<n>.0"
+            box {one} x {{c}} x(y).0 box {other} u {{{ty}}} new n.u<{sent}>.0"
         );
         last_answer(&text, unchanged, &[[3, 1, 0, 0, 0], [9, 0, 0, 1, 0]])
     };
-    // 16 and 17: hidden on either side, and unfit.
-    assert_eq!(ends("hidden", "site", "d"), 16);
-    assert_eq!(ends("site", "hidden", "d"), 16);
-    // 16 and 18.
-    assert_eq!(ends("hidden", "site", "c"), 16);
+    // 16 and 18: hidden on either side, or on both.
+    assert_eq!(ends("hidden", "site", "c", "n"), 18);
+    assert_eq!(ends("site", "hidden", "c", "n"), 18);
+    assert_eq!(ends("hidden", "hidden", "d", "n"), 18);
     // 17 and 18.
-    assert_eq!(ends("site", "site", "d"), 17);
-    assert_eq!(ends("site", "site", "c"), 18);
+    assert_eq!(ends("site", "site", "d", "n"), 18);
+    // 16 and 17.
+    assert_eq!(ends("hidden", "site", "d", "v"), 16);
+    assert_eq!(ends("site", "hidden", "d", "v"), 16);
+    // Each alone, and none.
+    assert_eq!(ends("site", "site", "c", "n"), 18);
+    assert_eq!(ends("hidden", "site", "c", "v"), 16);
+    assert_eq!(ends("site", "hidden", "c", "v"), 16);
+    assert_eq!(ends("site", "site", "d", "v"), 17);
+    assert_eq!(ends("site", "site", "c", "v"), 0);
+}
+
+/// What the last of a crafted case's moves meets of 16, 17 and 18.
+fn last_causes(refused: &RefusedMove) -> Vec<u8> {
+    let model = crafted::model(refused.text);
+    let mut words = walk::start(&model);
+    let mut session = Session::open(&model, &mut words).expect("a state");
+    let moves = refused.moves();
+    let (last, before) = moves.split_last().unwrap();
+    before.iter().for_each(|mv| session.step(*mv).expect("a move that is made"));
+    session.inter_causes(*last).into_iter().map(Cause::number).collect()
+}
+
+#[test]
+fn causes_of_an_inter_move() {
+    let causes: Vec<Vec<u8>> = PRIVATE_AND_MORE.iter().map(last_causes).collect();
+    assert_eq!(causes, [[18, 16], [18, 16], [18, 17]]);
+    let alone = |refused: &&RefusedMove| (16..=18).contains(&refused.number);
+    let causes: Vec<Vec<u8>> = REFUSED_MOVES.iter().filter(alone).map(last_causes).collect();
+    assert_eq!(causes, [[16], [17], [18]]);
+    assert_eq!(last_causes(&REFUSED_MOVES[2]), [0; 0]);
 }
 
 /// A box with this many starting sites, which exposes one more.

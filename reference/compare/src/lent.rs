@@ -2,7 +2,8 @@
 
 use bm::cases::rng::Rng;
 use bm::state::STATE_WORDS;
-use bm::{Move, Refusal, calls};
+use bm::step::{Session, move_kind};
+use bm::{Cause, Model, Move, Refusal, calls};
 
 use crate::report::Report;
 use crate::{packing, proved};
@@ -57,7 +58,19 @@ impl Lent {
             format!("step {:?} on {len} words", mv.numbers())
         });
         report.tally.calls.stepped(mv, answer);
+        if mv.kind == move_kind::INTER && answer.is_err() {
+            report.tally.calls.inter_refused(&self.inter_causes(model, mv));
+        }
         answer
+    }
+
+    /// What an inter move on the words before the last call meets of 16, 17 and 18.
+    fn inter_causes(&mut self, model: &[u8], mv: Move) -> Vec<Cause> {
+        let Ok(model) = Model::read(model) else {
+            return Vec::new();
+        };
+        let session = Session::open(&model, &mut self.before);
+        session.map_or_else(|_| Vec::new(), |session| session.inter_causes(mv))
     }
 
     /// A run, with so many answers lent.

@@ -7,6 +7,7 @@ use std::ops::Range;
 
 use bm::model::{Line, LineNo, Site};
 use bm::names::MAX_STAMP;
+use bm::shape::MAX_TYPE;
 use bm::state::{RecordMut, records_mut};
 use bm::step::move_kind;
 use bm::write::{Draft, DraftBox};
@@ -18,8 +19,10 @@ use crate::timing::{self, Apart, Measured};
 
 /// How many boxes each model has, all alike; their subjects are the first names.
 const BOXES: u8 = 8;
-/// A free name that is the type of every site.
+/// A free name that is the type of every starting site.
 const SHARED: NameNo = NameNo(BOXES);
+/// Where the type of a record's first site begins: after the last stamp, two counts, the subject, and whether it is hidden.
+const TYPE_AT: usize = 5;
 
 /// The names of a box: its subject, and two that its lines may bind.
 #[derive(Clone, Copy)]
@@ -105,16 +108,16 @@ const CASES: [Case; 6] = [
             ]
         },
         state: |own, record, made| {
-            let private = Held::new(own.one, record.next_stamp());
-            let sent = if made { Held::free(SHARED) } else { private };
-            put(record, 0..8, 1, &[(own.one, private)]);
-            put(record, 8..16, 2, &[(own.one, private), (own.two, sent)]);
+            let private = (own.one, Held::new(own.one, 1));
+            put(record, 0..8, 1, &[private]);
+            put(record, 8..16, 2, &[private, (own.two, Held::free(SHARED))]);
+            put_type(record, own, made);
         },
         moves: |box_no| {
             let far = (box_no + 1) % u32::from(BOXES);
             (0..8).map(|at| pass(move_kind::INTER, (box_no, at), far)).collect()
         },
-        refused: Cause::Private,
+        refused: Cause::Unfit,
     },
 ];
 
@@ -151,6 +154,17 @@ fn put(record: &mut RecordMut<'_>, threads: Range<usize>, line: u16, bindings: &
 /// Leaves no stamp where moves are to be refused.
 fn put_stamp(record: &mut RecordMut<'_>, made: bool) {
     record.0[0] = if made { 0 } else { MAX_STAMP };
+}
+
+/// Gives the first site of a record a type of eight names that its box made; the last is one that box 0 made, and so in every type, or,
+/// where moves are to be refused, its own. So all words of two types are compared in either case.
+fn put_type(record: &mut RecordMut<'_>, own: Own, made: bool) {
+    let mut names = [own.one; MAX_TYPE];
+    names[MAX_TYPE - 1] = if made { Own::of(0).one } else { own.one };
+    for (word, (name, stamp)) in record.0[TYPE_AT..].iter_mut().zip(names.into_iter().zip(1..)) {
+        *word = Held::new(name, stamp).0;
+    }
+    record.0[0] = MAX_TYPE as u32;
 }
 
 /// A move of each thread by itself.

@@ -3,7 +3,7 @@
 use bm::cases::change::Change;
 use bm::cases::odd::ODDITIES;
 use bm::cases::spoil::SPOILINGS;
-use bm::{Move, Refusal, ShutOff, Verdict};
+use bm::{Cause, Move, Refusal, ShutOff, Verdict};
 
 use crate::runs::LENDINGS;
 
@@ -109,11 +109,21 @@ impl Verdicts {
     }
 }
 
+/// What an inter move may meet of 16, 17 and 18.
+const INTER_CAUSES: [(&str, &[Cause]); 5] = [
+    ("16 alone", &[Cause::NoSite]),
+    ("17 alone", &[Cause::Unfit]),
+    ("18 alone", &[Cause::Private]),
+    ("18 and 16", &[Cause::Private, Cause::NoSite]),
+    ("18 and 17", &[Cause::Private, Cause::Unfit]),
+];
+
 /// Calls on lent states.
 pub struct Calls {
     pub starts: Counts,
     pub steps: Counts,
     pub made: Counts,
+    pub inter: Counts,
     pub spoilt: Counts,
     pub odd: Counts,
     /// States with words changed at random.
@@ -126,6 +136,7 @@ impl Calls {
             starts: Counts::numbered("start answered", 0..=10),
             steps: Counts::numbered("step answered", 0..=20),
             made: Counts::numbered("kind of move made", 1..=9),
+            inter: Counts::named("inter move meets", INTER_CAUSES.map(|(name, _)| name)),
             spoilt: Counts::of_changes("state spoilt", SPOILINGS),
             odd: Counts::of_changes("state odd and in order", ODDITIES),
             changed: Counts::named("words changed", ["spoilt", "in order"]),
@@ -140,6 +151,13 @@ impl Calls {
         self.steps.add(number(answer));
         if answer.is_ok() {
             self.made.add(mv.kind as usize - 1);
+        }
+    }
+
+    /// An inter move was refused, and meets these of 16, 17 and 18; none where it is refused before them.
+    pub fn inter_refused(&mut self, met: &[Cause]) {
+        if let Some(at) = INTER_CAUSES.iter().position(|(_, causes)| *causes == met) {
+            self.inter.add(at);
         }
     }
 }
@@ -185,10 +203,10 @@ impl Tally {
     }
 
     fn counts(&self) -> Vec<&Counts> {
-        let Calls { starts, steps, made, spoilt, odd, changed } = &self.calls;
+        let Calls { starts, steps, made, inter, spoilt, odd, changed } = &self.calls;
         let Runs { answered, passed_over, made: made_in_runs, lent } = &self.runs;
         let mut counts = self.verdicts.verdicts().to_vec();
-        counts.extend([&self.verdicts.question, starts, steps, made, spoilt, odd, changed]);
+        counts.extend([&self.verdicts.question, starts, steps, made, inter, spoilt, odd, changed]);
         counts.extend([answered, passed_over, made_in_runs, lent]);
         counts
     }
@@ -223,10 +241,9 @@ mod tests {
     fn sound() -> Tally {
         let mut tally = Tally::new();
         let Verdicts { accepted, clauses, of_model, of_estimate, question } = &mut tally.verdicts;
-        let Calls { starts, steps, made, spoilt, odd, changed } = &mut tally.calls;
-        let others =
-            [clauses, of_model, of_estimate, question, starts, steps, made, spoilt, odd, changed];
-        others.into_iter().for_each(|counts| fill(counts, FEWEST));
+        let Calls { starts, steps, made, inter, spoilt, odd, changed } = &mut tally.calls;
+        let others = [clauses, of_model, of_estimate, question, starts, steps, made, inter];
+        others.into_iter().chain([spoilt, odd, changed]).for_each(|counts| fill(counts, FEWEST));
         fill(accepted, 5 * FEWEST);
         fill_runs(&mut tally.runs, FEWEST);
         tally
@@ -248,6 +265,15 @@ mod tests {
         let mut tally = sound();
         tally.calls.odd.kinds[1].1 = 0;
         assert_eq!(tally.faults(), ["state odd and in order no_thread (0)"]);
+    }
+
+    #[test]
+    fn causes_of_inter_moves_are_counted() {
+        let mut calls = Tally::new().calls;
+        calls.inter_refused(&[Cause::Private, Cause::Unfit]);
+        calls.inter_refused(&[Cause::Unfit]);
+        calls.inter_refused(&[]);
+        assert_eq!(calls.inter.counts().collect::<Vec<u64>>(), [0, 1, 0, 0, 1]);
     }
 
     #[test]

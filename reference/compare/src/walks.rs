@@ -1,7 +1,7 @@
 //! Walks from a start: each step compared, made or refused, and the words after it.
 
 use bm::Model;
-use bm::cases::crafted::{self, EVERY_CLAUSE, REFUSED_MOVES, RefusedMove};
+use bm::cases::crafted::{self, EVERY_CLAUSE, PRIVATE_AND_MORE, REFUSED_MOVES, RefusedMove};
 use bm::cases::random::{self, Size};
 use bm::cases::rng::Rng;
 use bm::cases::walk::{self, Taste};
@@ -90,7 +90,8 @@ pub fn compare(report: &mut Report) {
     for number in 0..report.plan.cases {
         let mut rng = report.begin(WALKS, number);
         random_walk(report, &mut rng);
-        let refused = &REFUSED_MOVES[rng.below(REFUSED_MOVES.len())];
-        crafted_walk(report, &mut rng, refused);
+        let mut crafted = REFUSED_MOVES.iter().chain(&PRIVATE_AND_MORE);
+        let at = rng.below(REFUSED_MOVES.len() + PRIVATE_AND_MORE.len());
+        crafted_walk(report, &mut rng, crafted.nth(at).expect("a case at each place"));
     }
 }

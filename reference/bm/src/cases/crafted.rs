@@ -75,14 +75,11 @@ pub const REFUSED_MOVES: [RefusedMove; 9] = [
         moves: &[[9, 0, 0, 1, 0]],
         stamp: 0,
     },
-    RefusedMove {
-        number: 18,
-        text: "free x u c received y restricted n
+    private(
+        "free x u c received y restricted n
             box site x {c} x(y).0
             box site u {c} new n.u<n>.0",
-        moves: &[[3, 1, 0, 0, 0], [9, 0, 0, 1, 0]],
-        stamp: 0,
-    },
+    ),
     RefusedMove {
         number: 19,
         text: "free x c box site x {c} !0",
@@ -96,3 +93,28 @@ pub const REFUSED_MOVES: [RefusedMove; 9] = [
         stamp: 65_534,
     },
 ];
+
+/// Inter moves that send a restricted name and meet another refusal too: 16
+/// at the input's end and at the output's, and 17.
+pub const PRIVATE_AND_MORE: [RefusedMove; 3] = [
+    private(
+        "free x u c received y restricted n
+            box hidden x {c} x(y).0
+            box site u {c} new n.u<n>.0",
+    ),
+    private(
+        "free x u c received y restricted n
+            box site x {c} x(y).0
+            box hidden u {c} new n.u<n>.0",
+    ),
+    private(
+        "free x u c d received y restricted n
+            box site x {c} x(y).0
+            box site u {d} new n.u<n>.0",
+    ),
+];
+
+/// Box 1 makes a name and would send it to box 0.
+const fn private(text: &'static str) -> RefusedMove {
+    RefusedMove { number: 18, text, moves: &[[3, 1, 0, 0, 0], [9, 0, 0, 1, 0]], stamp: 0 }
+}
