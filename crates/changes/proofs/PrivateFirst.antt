@@ -3,6 +3,7 @@ use mathlib.Core.Path.{_≡_, refl, sym, ap, subst, _∙_}
 use mathlib.Core.Bool.{Bool, true, false, not}
 use mathlib.Core.List.{List}
 use mathlib.Core.Logic.{_↔_, _⊎_, inl, inr, ⊎-elim}
+use mathlib.Core.Option.{Option}
 use Prim.Native.Nat.{ℕ}
 use native.Mathlib.Omega.{arith}
 use lib.Dec.{T}
@@ -13,7 +14,7 @@ use Rattle.definitions.specs.Moves.{Kind, inside, inter, unknown, kindOfMove, M
 use Rattle.definitions.specs.Calls.{outcomeNumber}
 use Rattle.definitions.proofs.Bounded.{or-iff, is-iff, of-true}
 use Rattle.definitions.proofs.Made.{refused-made}
-use Rattle.definitions.proofs.MoveRefusals.{meets, metAs, met}
+use Rattle.definitions.proofs.MoveRefusals.{meets, metAs, met, FirstMet, refused-iff}
 use Rattle.changes.specs.PrivateFirst.{oldInterMove, oldInterAct, oldActAs, oldAct, sendsPrivateAs, sendsPrivate, newNumber, newAnswer, PrivateFirst}
 
 -- ---- one answer
@@ -63,42 +64,79 @@ kept : (n : ℕ) → newNumber false n ≡ n
 unfolding newNumber _and_
 kept n = refl
 
-private-met : (nobody self wrongLine noSite unfit q : Bool) → T q → T (meets nobody self wrongLine false noSite unfit (not (not q)) false false 18)
+-- what an inter move meets, by the tests that it passes; q: the name sent is private
+abbrev causes : Bool → Bool → Bool → Bool → Bool → Bool → ℕ → Bool
+causes q b d l n h k = meets (not b) (not d) (not l) false (not n) (n and not h) (not (not q)) false false k
+
+private-met : (q b d l n h : Bool) → T q → T (causes q b d l n h 18)
 unfolding meets _and_ _or_ _is_
-private-met nobody self wrongLine noSite unfit true t = tt
-private-met nobody self wrongLine noSite unfit false t = absurd t
+private-met true b d l n h t = tt
+private-met false b d l n h t = absurd t
+
+-- a number of the old order is met
+old-met : (f : Ends → List ℕ) (e : Ends) (q b d l n h : Bool) (k : ℕ)
+    → need b 12 (need d 13 (onMade f (need l 14 (need n 16 (need h 17 (need (not q) 18 (made e))))))) ≡ refused k
+    → T (causes q b d l n h k)
+unfolding meets _and_ _or_ _is_
+old-met f e q false d l n h k z = subst (λ (i : ℕ). T (causes q false d l n h i)) (ap outcomeNumber z) tt
+old-met f e q true false l n h k z = subst (λ (i : ℕ). T (causes q true false l n h i)) (ap outcomeNumber z) tt
+old-met f e q true true false n h k z = subst (λ (i : ℕ). T (causes q true true false n h i)) (ap outcomeNumber z) tt
+old-met f e q true true true false h k z = subst (λ (i : ℕ). T (causes q true true true false h i)) (ap outcomeNumber z) tt
+old-met f e q true true true true false k z = subst (λ (i : ℕ). T (causes q true true true true false i)) (ap outcomeNumber z) tt
+old-met f e true true true true true true k z = subst (λ (i : ℕ). T (causes true true true true true true i)) (ap outcomeNumber z) tt
+old-met f e false true true true true true k z = absurd (refused-made (sym z))
 
 -- ---- any move
 
 module _ (m : Model) (st : List ℕ) (v : Move) where
+  -- the tests of the move as an inter move: the name sent is private; boxes and threads are there; the boxes differ; lines; sites; types
+  abbrev sent : Bool
+  sent = kindOfName (m .kinds) (heldNumber (value2 (m .kinds) (boxAt m (v .box2)) (recordOf st (v .box2)) (v .thread2))) is 1
+
+  abbrev there : Bool
+  there = v .box below boxCount m and v .box2 below boxCount m and v .thread below threads (recordOf st (v .box)) and v .thread2 below threads (recordOf st (v .box2))
+
+  abbrev lines : Bool
+  lines =
+      threadLine (m .kinds) (boxAt m (v .box)) (recordOf st (v .box)) (v .thread) .op is opInput
+      and threadLine (m .kinds) (boxAt m (v .box2)) (recordOf st (v .box2)) (v .thread2) .op is opOutput
+
+  abbrev siteIn : Option ℕ
+  siteIn = siteWith (recordOf st (v .box)) (value1 (m .kinds) (boxAt m (v .box)) (recordOf st (v .box)) (v .thread)) 0
+
+  abbrev siteOut : Option ℕ
+  siteOut = siteWith (recordOf st (v .box2)) (value1 (m .kinds) (boxAt m (v .box2)) (recordOf st (v .box2)) (v .thread2)) 0
+
+  abbrev fit : Bool
+  fit = typesShare (site (recordOf st (v .box)) (at siteIn)) (site (recordOf st (v .box2)) (at siteOut))
+
   by-kind : (k : Kind) → actAs m st k v ≡ newAnswer (sendsPrivateAs m st k v) (oldActAs m st k v)
   unfolding actAs oldActAs sendsPrivateAs interAct oldInterAct interMove oldInterMove _is_ _isnt_
   by-kind (inside k) = same (insideAct m st k (v .box) (v .thread) (v .thread2))
-  by-kind inter =
-      let x = boxAt m (v .box) in
-      let y = boxAt m (v .box2) in
-      let r = recordOf st (v .box) in
-      let s = recordOf st (v .box2) in
-      let i = siteWith r (value1 (m .kinds) x r (v .thread)) 0 in
-      let j = siteWith s (value1 (m .kinds) y s (v .thread2)) 0 in
-      orders _ _ (kindOfName (m .kinds) (heldNumber (value2 (m .kinds) y s (v .thread2))) is 1)
-      (v .box below boxCount m and v .box2 below boxCount m and v .thread below threads r and v .thread2 below threads s)
-      (v .box isnt v .box2)
-      (threadLine (m .kinds) x r (v .thread) .op is opInput and threadLine (m .kinds) y s (v .thread2) .op is opOutput)
-      (found i and found j)
-      (typesShare (site r (at i)) (site s (at j)))
+  by-kind inter = orders _ _ sent there (v .box isnt v .box2) lines (found siteIn and found siteOut) fit
   by-kind unknown = same (refused 12)
 
   -- a move that sends a private name meets 18
-  meets-18 : (k : Kind) → T (sendsPrivateAs m st k v) → T (metAs m st v k 18)
+  sent-met : (k : Kind) → T (sendsPrivateAs m st k v) → T (metAs m st v k 18)
   unfolding sendsPrivateAs metAs _is_ _isnt_
-  meets-18 (inside k) t = absurd t
-  meets-18 inter t = private-met _ _ _ _ _ (kindOfName (m .kinds) (heldNumber (value2 (m .kinds) (boxAt m (v .box2)) (recordOf st (v .box2)) (v .thread2))) is 1) t
-  meets-18 unknown t = absurd t
+  sent-met (inside k) t = absurd t
+  sent-met inter t = private-met sent there (v .box isnt v .box2) lines (found siteIn and found siteOut) fit t
+  sent-met unknown t = absurd t
 
   private-18 : T (sendsPrivate m st v) → T (met m st v 18)
   unfolding sendsPrivate met
-  private-18 t = meets-18 (kindOfMove (v .kind)) t
+  private-18 t = sent-met (kindOfMove (v .kind)) t
+
+  -- the old number is met: where the move is not inter it is the new one
+  cause-as : (n : ℕ) (k : Kind) → (actAs m st k v ≡ refused n → FirstMet (metAs m st v k) n) → oldActAs m st k v ≡ refused n → T (metAs m st v k n)
+  unfolding actAs oldActAs metAs oldInterAct oldInterMove _is_ _isnt_
+  cause-as n (inside k) f e = f e .isMet
+  cause-as n inter f e = old-met _ _ sent there (v .box isnt v .box2) lines (found siteIn and found siteOut) fit n e
+  cause-as n unknown f e = f e .isMet
+
+  is-cause : (n : ℕ) → oldAct m st v ≡ refused n → T (met m st v n)
+  unfolding act oldAct met
+  is-cause n e = cause-as n (kindOfMove (v .kind)) (refused-iff m st v n .0) e
 
   answers : act m st v ≡ newAnswer (sendsPrivate m st v) (oldAct m st v)
   unfolding act oldAct sendsPrivate
@@ -142,6 +180,7 @@ private-first m st v = record {
   answers = answers m st v;
   changes = λ n k e d. let z = number-as m st v n k e d in ⊎-elim (λ y. inl (z ∙ y)) (λ y. inr (y .0, z ∙ y .1)) (becomes (sendsPrivate m st v) n);
   exactly = exactly m st v;
+  isCause = is-cause m st v;
   oneCause = one-cause m st v;
   madeAlike = made-alike m st v;
 }

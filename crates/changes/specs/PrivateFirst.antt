@@ -68,14 +68,15 @@ abbrev pub newAnswer : Bool → Outcome (List ℕ) → Outcome (List ℕ)
 newAnswer private (refused n) = refused (newNumber private n)
 newAnswer private (made w) = made w
 
--- of a move in a state
+-- what is so of every move in every state; `met m st v n`: the move meets refusal n, each refusal being looked at by itself
 pub record PrivateFirst (m : Model) (st : List ℕ) (v : Move) : Type 0 where
-  -- the new answer by the old one
+  -- the new answer is a function of the old one
   pub answers : act m st v ≡ newAnswer (sendsPrivate m st v) (oldAct m st v)
   -- a number other than 18 changes only from 16 or 17 to 18, and exactly where the name sent is of kind 1
   pub changes : (n k : ℕ) → oldAct m st v ≡ refused n → act m st v ≡ refused k → (k ≡ n) ⊎ (((n ≡ 16) ⊎ (n ≡ 17)) × (k ≡ 18))
   pub exactly : (n : ℕ) → ((n ≡ 16) ⊎ (n ≡ 17)) → oldAct m st v ≡ refused n → (act m st v ≡ refused 18) ↔ T (sendsPrivate m st v)
-  -- a number stays where the move meets no other, each refusal being looked at by itself
+  -- an old number is one that the move meets; it stays where the move meets no other
+  pub isCause : (n : ℕ) → oldAct m st v ≡ refused n → T (met m st v n)
   pub oneCause : (n : ℕ) → oldAct m st v ≡ refused n → ((k : ℕ) → T (met m st v k) → k ≡ n) → act m st v ≡ refused n
   -- a move is made exactly when it was made, with the same words
   pub madeAlike : (w : List ℕ) → (act m st v ≡ made w) ↔ (oldAct m st v ≡ made w)

@@ -11,7 +11,7 @@ use Rattle.definitions.specs.Model as model
 use Rattle.definitions.specs.Model.{Box, boxAt, kindOfName, output, input}
 use Rattle.definitions.specs.Image.{kindsOf, modelOf}
 use Rattle.definitions.specs.Record.{heldNumber, threads, site, thread, putThread}
-use Rattle.definitions.specs.Moves.{Outcome, Ends, made, need, onward, onwardWith, siteWith, found, at, typesShare, valueIn, threadLine, value1, value2, interMove}
+use Rattle.definitions.specs.Moves.{Ends, made, need, onward, onwardWith, siteWith, found, at, typesShare, valueIn, threadLine, value1, value2, interMove}
 use Rattle.definitions.specs.Calls.{outcomeNumber}
 use Rattle.definitions.proofs.Bounded.{and-iff, is-iff, isnt-iff, below-iff, true-of, of-true, false-of, not-false}
 use Rattle.definitions.proofs.Image.{model-kinds}

@@ -170,36 +170,25 @@ impl<'a> Session<'a> {
     /// Kind 9: a thread of each of two boxes, through their sites. Refusals
     /// in the order 12, 13, 14, 18, 16, 17.
     fn plan_inter(&self, mv: Move) -> Result<Effect, Cause> {
-        let crossing = self.crossing(mv)?;
-        self.may_leave(crossing.pass.sent)?;
-        crossing.sites_fit()?;
-        Ok(crossing.pass.effect)
-    }
-
-    /// Whether an inter move meets 18, and whether it meets 16 or 17, each
-    /// looked at by itself; none of them where it meets 12, 13 or 14.
-    pub fn inter_causes(&self, mv: Move) -> Vec<Cause> {
-        let Ok(crossing) = self.crossing(mv) else {
-            return Vec::new();
-        };
-        let tests = [self.may_leave(crossing.pass.sent), crossing.sites_fit()];
-        tests.into_iter().filter_map(Result::err).collect()
-    }
-
-    /// The two ends of an inter move: refusals 12, 13 and 14.
-    fn crossing(&self, mv: Move) -> Result<Crossing<'_>, Cause> {
         let input = self.end(mv.box_no, mv.thread)?;
         let output = self.end(mv.second_box, mv.second_thread)?;
         if mv.box_no == mv.second_box {
             return Err(Cause::OneSelf);
         }
         let pass = Pass::between(&input, &output)?;
-        Ok(Crossing { input: input.record, output: output.record, pass })
+        pass.may_leave(self.model)?;
+        pass.sites_fit(input.record, output.record)?;
+        Ok(pass.effect)
     }
 
-    /// A restricted name does not leave its box: refusal 18.
-    fn may_leave(&self, sent: Held) -> Result<(), Cause> {
-        allow(self.model.kind(sent.name()) != NameKind::Restricted, Cause::Private)
+    /// Whether an inter move that does not meet 12, 13 or 14 meets 18, and
+    /// whether it meets 16 or 17, each looked at by itself.
+    pub fn inter_causes(&self, mv: Move) -> Result<Vec<Cause>, Cause> {
+        let input = self.end(mv.box_no, mv.thread)?;
+        let output = self.end(mv.second_box, mv.second_thread)?;
+        let pass = Pass::between(&input, &output)?;
+        let tests = [pass.may_leave(self.model), pass.sites_fit(input.record, output.record)];
+        Ok(tests.into_iter().filter_map(Result::err).collect())
     }
 
     fn record_mut(&mut self, place: Place) -> RecordMut<'_> {
@@ -329,21 +318,17 @@ impl Pass {
             },
         })
     }
-}
 
-/// A name passed from a box to another.
-struct Crossing<'a> {
-    input: Record<'a>,
-    output: Record<'a>,
-    pass: Pass,
-}
+    /// A restricted name does not leave its box: refusal 18.
+    fn may_leave(&self, model: &Model) -> Result<(), Cause> {
+        allow(model.kind(self.sent.name()) != NameKind::Restricted, Cause::Private)
+    }
 
-impl Crossing<'_> {
     /// Both channels are shown sites, and their types share a held name:
     /// refusals 16 and 17.
-    fn sites_fit(&self) -> Result<(), Cause> {
-        let one = self.input.shown_type(self.pass.input_channel).ok_or(Cause::NoSite)?;
-        let other = self.output.shown_type(self.pass.output_channel).ok_or(Cause::NoSite)?;
+    fn sites_fit(&self, input: Record<'_>, output: Record<'_>) -> Result<(), Cause> {
+        let one = input.shown_type(self.input_channel).ok_or(Cause::NoSite)?;
+        let other = output.shown_type(self.output_channel).ok_or(Cause::NoSite)?;
         allow(one.iter().any(|held| other.contains(held)), Cause::Unfit)
     }
 }

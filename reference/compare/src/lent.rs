@@ -58,19 +58,18 @@ impl Lent {
             format!("step {:?} on {len} words", mv.numbers())
         });
         report.tally.calls.stepped(mv, answer);
-        if mv.kind == move_kind::INTER && answer.is_err() {
+        let causes = [Cause::NoSite, Cause::Unfit, Cause::Private];
+        if mv.kind == move_kind::INTER && answer.is_err_and(|why| causes.contains(&why.cause)) {
             report.tally.calls.inter_refused(&self.inter_causes(model, mv));
         }
         answer
     }
 
-    /// What an inter move on the words before the last call meets of 16, 17 and 18.
+    /// What an inter move that was refused with 16, 17 or 18 meets of them.
     fn inter_causes(&mut self, model: &[u8], mv: Move) -> Vec<Cause> {
-        let Ok(model) = Model::read(model) else {
-            return Vec::new();
-        };
-        let session = Session::open(&model, &mut self.before);
-        session.map_or_else(|_| Vec::new(), |session| session.inter_causes(mv))
+        let model = Model::read(model).expect("a model that a move was made or refused in");
+        let session = Session::open(&model, &mut self.before).expect("a state");
+        session.inter_causes(mv).expect("a move that meets none of 12 to 14")
     }
 
     /// A run, with so many answers lent.

@@ -154,11 +154,10 @@ impl Calls {
         }
     }
 
-    /// An inter move was refused, and meets these of 16, 17 and 18; none where it is refused before them.
+    /// An inter move was refused with one of 16, 17 and 18, and meets these.
     pub fn inter_refused(&mut self, met: &[Cause]) {
-        if let Some(at) = INTER_CAUSES.iter().position(|(_, causes)| *causes == met) {
-            self.inter.add(at);
-        }
+        let at = INTER_CAUSES.iter().position(|(_, causes)| *causes == met);
+        self.inter.add(at.expect("18, 16 or 17, or 18 and one of these"));
     }
 }
 
@@ -272,7 +271,6 @@ mod tests {
         let mut calls = Tally::new().calls;
         calls.inter_refused(&[Cause::Private, Cause::Unfit]);
         calls.inter_refused(&[Cause::Unfit]);
-        calls.inter_refused(&[]);
         assert_eq!(calls.inter.counts().collect::<Vec<u64>>(), [0, 1, 0, 0, 1]);
     }
 
