@@ -87,7 +87,7 @@ enum bm_refusal {
     BM_REFUSAL_UNFIT = 17,      /* inter: the types of the two sites share no held name */
     BM_REFUSAL_PRIVATE = 18,    /* inter: the name sent is restricted */
     BM_REFUSAL_FULL = 19,       /* the box has 16 threads or 16 sites already */
-    BM_REFUSAL_SPENT = 20       /* the box has used its last stamp, 65,535 */
+    BM_REFUSAL_SPENT = 20       /* the box has used its last stamp */
 };
 
 /* The kinds of moves. Those that use two threads are noted; the others use the first thread alone. */

@@ -1,1 +1,2 @@
 pub mod PrivateFirst
+pub mod LongerRuns

@@ -141,11 +141,11 @@ module _ (kinds : List ℕ) (x : Box) (r : List ℕ) (t : ℕ) where
   unfolding spreadMove _below_
   spread-number a n v e d q = next parallel 19 (ltb (threads r) 16) _ a v e (q ∙ ap (λ (i : ℕ). orNext a (unless (ltb i 16) 19)) d)
 
-  pub new-number : (a n v : ℕ) → a ≡ lineNumber kinds x r t restriction → n ≡ stamp r → v ≡ orNext a (unless (ltb n stampLimit) 20)
+  pub new-number : (a n : ℕ) (b : Bool) (v : ℕ) → a ≡ lineNumber kinds x r t restriction → n ≡ stamp r → b ≡ (n below stampLimit) → v ≡ orNext a (unless b 20)
       → v ≡ outcomeNumber (newMove kinds x r t)
-  unfolding newMove _below_
-  new-number a n v e d q =
-      next restriction 20 (ltb (stamp r) stampLimit) _ a v e (q ∙ ap (λ (i : ℕ). orNext a (unless (ltb i stampLimit) 20)) d)
+  unfolding newMove
+  new-number a n b v e d p q =
+      next restriction 20 (stamp r below stampLimit) _ a v e (q ∙ ap (λ (c : Bool). orNext a (unless c 20)) (p ∙ ap (λ (i : ℕ). i below stampLimit) d))
 
   pub copy-number : (a n v : ℕ) → a ≡ lineNumber kinds x r t replication → n ≡ threads r → v ≡ orNext a (unless (ltb n 16) 19)
       → v ≡ outcomeNumber (copyMove kinds x r t)
@@ -164,12 +164,12 @@ module _ (kinds : List ℕ) (x : Box) (r : List ℕ) (t : ℕ) where
       pick (yes e) false =
           ap (λ (n : ℕ). orNext n (unless c 20)) (sym (or-go a 19 e)) ∙ sym (or-stop 19 (unless c 20) (λ z. omega (arith, z))) ∙ or-go a 19 e
 
-  pub expose-number : (a n s f v : ℕ) → a ≡ lineNumber kinds x r t expose → n ≡ sites r → s ≡ stamp r
-      → f ≡ orNext a (unless (ltb n 16) 19) → v ≡ orNext f (unless (ltb s stampLimit) 20) → v ≡ outcomeNumber (exposeMove kinds x r t)
+  pub expose-number : (a n s : ℕ) (b : Bool) (f v : ℕ) → a ≡ lineNumber kinds x r t expose → n ≡ sites r → s ≡ stamp r → b ≡ (s below stampLimit)
+      → f ≡ orNext a (unless (ltb n 16) 19) → v ≡ orNext f (unless b 20) → v ≡ outcomeNumber (exposeMove kinds x r t)
   unfolding exposeMove _below_
-  expose-number a n s f v e d g p q =
-      q ∙ ap (λ (i : ℕ). orNext i (unless (ltb s stampLimit) 20)) p
-      ∙ ap (λ (i : ℕ). orNext (orNext a (unless (ltb n 16) 19)) (unless (ltb i stampLimit) 20)) g
+  expose-number a n s b f v e d g h p q =
+      q ∙ ap (λ (i : ℕ). orNext i (unless b 20)) p
+      ∙ ap (λ (c : Bool). orNext (orNext a (unless (ltb n 16) 19)) (unless c 20)) (h ∙ ap (λ (i : ℕ). ltb i stampLimit) g)
       ∙ ap (λ (i : ℕ). orNext (orNext a (unless (ltb i 16) 19)) (unless (ltb (stamp r) stampLimit) 20)) d
       ∙ or-or a (ltb (sites r) 16) (ltb (stamp r) stampLimit) []
       ∙ ap (λ (i : ℕ). orNext i (outcomeNumber (need (ltb (sites r) 16) 19 (need (ltb (stamp r) stampLimit) 20 passed)))) e

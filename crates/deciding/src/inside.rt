@@ -11,7 +11,6 @@ ghost use Rattle.lookups.specs.Inside.{insideOutcome};
 ghost use Rattle.deciding.specs.Numbers.{unless, orNext, lineNumber, turnNumber, channelNumber};
 use lookups::thread_line;
 use lookups::value;
-use state::STAMP_LIMIT;
 
 // 12 no such thread, 14 not at a line of that operation.
 fn at_line(model: &[u8], places: u64, b: usize, r: &[u32], t: usize, op: u8) -> u8
@@ -95,7 +94,7 @@ fn expose(model: &[u8], places: u64, b: usize, r: &[u32], t: usize) -> u8
 {
     let a = at_line(model, places, b, r, t, 6);
     let room = state::sites(r) < 16;
-    let fresh = state::stamp(r) < STAMP_LIMIT;
+    let fresh = state::stamp_left(state::stamp(r));
     or_unless(or_unless(a, room, 19), fresh, 20)
 }
 
@@ -113,7 +112,7 @@ pub fn allowed(model: &[u8], places: u64, b: usize, r: &[u32], kind: u32, t: usi
         ),
         3 => or_unless(
             at_line(model, places, b, r, t, 3),
-            state::stamp(r) < STAMP_LIMIT,
+            state::stamp_left(state::stamp(r)),
             20,
         ),
         4 => or_unless(

@@ -15,9 +15,9 @@ heldNumber v = (v - 1) % 64
 unfoldable pub heldStamp : ℕ → ℕ
 heldStamp v = (v - 1) / 64
 
--- the largest stamp
+-- the largest stamp: of 26 bits, so that the largest held name, of name 59, fits a word of 32
 abbrev pub stampLimit : ℕ
-stampLimit = 65535
+stampLimit = 67108863
 
 -- a box record of 1,139 words: last stamp, thread count, site count, 16 sites of 10 words, 16 threads of 61
 abbrev pub siteBase : ℕ

@@ -61,9 +61,9 @@ module _ (st r : List ℕ) (b : ℕ) (e : r ≡ recordOf st b) where
   unfolding lastStamps
   last-is w q = q ∙ ap stamp e
 
-pub last-test : (st : List ℕ) (b w : ℕ) → w ≡ lastStamps st b → leb w 65535 ≡ lastFits st b
-unfolding lastFits _upto_
-last-test st b w e = ap (λ (v : ℕ). leb v 65535) e
+pub last-test : (st : List ℕ) (b w : ℕ) (t : Bool) → t ≡ (w upto stampLimit) → w ≡ lastStamps st b → t ≡ lastFits st b
+unfolding lastFits
+last-test st b w t q e = q ∙ ap (λ (v : ℕ). v upto stampLimit) e
 
 -- ---- the limits of one number
 

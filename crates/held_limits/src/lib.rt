@@ -10,7 +10,6 @@ use layouts::Layout;
 use layouts::Owner;
 use sets::NameNo;
 use state::Held;
-use state::STAMP_LIMIT;
 
 // The entry of a held name in the tables.
 fn entry(v: Held) -> usize
@@ -42,7 +41,7 @@ pub fn stamps_fit(state: &[u32], boxes: usize) -> bool
     let mut ok = true;
     let mut b = 0;
     while b < boxes {
-        ok = ok & (last_stamp(state, b) <= STAMP_LIMIT);
+        ok = ok & state::stamp_fits(last_stamp(state, b));
         b += 1;
     }
     ok

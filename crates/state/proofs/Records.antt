@@ -4,11 +4,11 @@ use mathlib.Core.List.{List}
 use Prim.Native.Nat.{ℕ, _+_, _-_, _*_, _%_, _<_}
 use native.Mathlib.Omega.{arith}
 use borrow.Author.Needs.{needs}
-use lib.Dec.{eqb}
+use lib.Dec.{eqb, leb, ltb}
 use lib.ListN.{take, drop}
-use Rattle.definitions.specs.Bounded.{_is_}
+use Rattle.definitions.specs.Bounded.{_is_, _below_, _upto_}
 use Rattle.definitions.specs.Slots.{word, slot}
-use Rattle.definitions.specs.Record.{held, heldNumber, thread, site, line, binding, subject, flag, typeWord, recordOf}
+use Rattle.definitions.specs.Record.{held, heldNumber, stampLimit, thread, site, line, binding, subject, flag, typeWord, recordOf}
 use Rattle.definitions.proofs.Slots.{word-slot}
 use Rattle.state.proofs.Parts.{lent-slot}
 
@@ -55,4 +55,13 @@ pub same-is : (a b : ℕ) → eqb a b ≡ (a is b)
 unfolding _is_
 same-is a b = refl
 
-pub ruleset words = (needs, same-is, thread-line, thread-binding, site-subject, site-flag, site-type, record-part, held-is, number-of-none, number-of)
+-- the largest stamp
+pub stamp-upto : (s : ℕ) → leb s stampLimit ≡ (s upto stampLimit)
+unfolding _upto_
+stamp-upto s = refl
+
+pub stamp-below : (s : ℕ) → ltb s stampLimit ≡ (s below stampLimit)
+unfolding _below_
+stamp-below s = refl
+
+pub ruleset words = (needs, same-is, stamp-upto, stamp-below, thread-line, thread-binding, site-subject, site-flag, site-type, record-part, held-is, number-of-none, number-of)

@@ -2,7 +2,7 @@
 ghost use mathlib.Core.Path.{_≡_};
 ghost use Prim.Native.Nat.{_+_, _*_, _<_, _≤_};
 ghost use lib.ListN.{length};
-ghost use Rattle.definitions.specs.Bounded.{_is_};
+ghost use Rattle.definitions.specs.Bounded.{_is_, _below_, _upto_};
 ghost use Rattle.definitions.specs.Limits.{nameLimit, slotLimit, typeLimit};
 ghost use Rattle.definitions.specs.Record as records;
 use sets::NameNo;
@@ -13,7 +13,21 @@ pub mod edits;
 pub struct Held(pub u32);
 
 // The largest stamp.
-pub const STAMP_LIMIT: u32 = 65535;
+const STAMP_LIMIT: u32 = 67108863;
+
+// Stamp s is at most the largest.
+pub fn stamp_fits(s: u32) -> bool
+    ensures { λ r. ⌜ r ≡ (s upto records.stampLimit) ⌝ }
+{
+    s <= STAMP_LIMIT
+}
+
+// A stamp is left after s.
+pub fn stamp_left(s: u32) -> bool
+    ensures { λ r. ⌜ r ≡ (s below records.stampLimit) ⌝ }
+{
+    s < STAMP_LIMIT
+}
 
 // Name n, with a stamp.
 pub fn stamped(n: NameNo, stamp: u32) -> Held

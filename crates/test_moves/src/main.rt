@@ -210,15 +210,15 @@ fn k(moves_path: &[u8]) {
     list(b"k.blk", moves_path, 0);
 }
 
-fn limits(moves_path: &[u8], stamp: u32) {
-    list(b"limits.blk", moves_path, stamp);
-}
-
 fn main() {
     k(b"intra.txt");
     k(b"inter.txt");
     k(b"refused.txt");
-    limits(b"threads.txt", 0);
-    limits(b"stamps.txt", 65534);
+    list(b"limits.blk", b"threads.txt", 0);
+    list(b"stamps.blk", b"new.txt", 65535);
+    list(b"stamps.blk", b"expose.txt", 65535);
+    list(b"stamps.blk", b"new.txt", 67108862);
+    list(b"stamps.blk", b"expose.txt", 67108862);
+    list(b"stamps.blk", b"new.txt", 67108864);
     list(b"no.blk", b"intra.txt", 0);
 }

@@ -5,8 +5,9 @@ use std::fmt;
 /// The most names that a model lists.
 pub const MAX_NAMES: usize = 60;
 
-/// The largest stamp of a made name.
-pub const MAX_STAMP: u32 = 65_535;
+/// The largest stamp of a made name, of 26 bits: name 59 with this stamp is
+/// the largest held name, and fits its word.
+pub const MAX_STAMP: u32 = 67_108_863;
 
 /// A name's number: its place in the model's list.
 #[derive(Clone, Copy, PartialEq, Eq, PartialOrd, Ord, Hash, Debug)]

@@ -7,7 +7,7 @@ use bm::model::{Line, LineNo};
 use bm::state::{RECORD_WORDS, Record, STATE_WORDS, records};
 use bm::step::Session;
 use bm::write::Draft;
-use bm::{Cause, Model, Move, NameKind, NameNo, NameSet, Refusal, calls};
+use bm::{Cause, Held, Model, Move, NameKind, NameNo, NameSet, Refusal, calls};
 
 /// K's image after changes to single bytes, each block's check made anew.
 fn changed(changes: &[(usize, usize, u8)]) -> Vec<u8> {
@@ -381,7 +381,7 @@ fn exposing(sites: usize) -> String {
 
 #[test]
 fn full_before_spent() {
-    let spent = |words: &mut [u32]| words[0] = 65_535;
+    let spent = |words: &mut [u32]| words[0] = 67_108_863;
     let expose = [[5, 0, 0, 0, 0]];
     assert_eq!(last_answer(&exposing(16), spent, &expose), 19);
     assert_eq!(last_answer(&exposing(16), unchanged, &expose), 19);
@@ -502,18 +502,39 @@ fn sixteen_threads() {
     assert_eq!(last_answer(spreads, |_| {}, &moves), 0);
 }
 
+/// Name 59 made with the stamp after this one: its word, or the refusal.
+fn made_after(stamp: u32, by_new: bool) -> Result<u32, Cause> {
+    let model = crafted::last_name(by_new);
+    let mut words = walk::start(&model);
+    words[0] = stamp;
+    bm::step::step(&model, &mut words, Move::new([4, 0, 0, 0, 0]))?;
+    let kind = if by_new { 3 } else { 5 };
+    bm::step::step(&model, &mut words, Move::new([kind, 0, 1, 0, 0]))?;
+    assert_eq!(words[0], stamp + 1);
+    let record = Record(&records(&words).unwrap()[0]);
+    let thread = record.threads().nth(1).unwrap();
+    let held = Held(thread.binding(NameNo(59)));
+    assert_eq!((held.name(), held.stamp()), (NameNo(59), stamp + 1));
+    let subjects: Vec<Held> = record.sites().map(|site| site.subject()).collect();
+    assert_eq!(subjects.contains(&held), !by_new);
+    Ok(held.0)
+}
+
+/// Past 16 bits, and up to the last stamp of 26, with which name 59 still fits
+/// its word.
 #[test]
 fn last_stamps() {
-    let text = "free x c restricted n box site x {c} new n.0";
-    for (stamp, answer) in [(0, 0), (65_534, 0), (65_535, 20)] {
-        let set = |words: &mut [u32]| words[0] = stamp;
-        assert_eq!(last_answer(text, set, &[[3, 0, 0, 0, 0]]), answer);
+    for by_new in [true, false] {
+        assert_eq!(made_after(0, by_new), Ok(124));
+        assert_eq!(made_after(65_534, by_new), Ok(4_194_300));
+        assert_eq!(made_after(65_535, by_new), Ok(4_194_364));
+        assert_eq!(made_after(65_536, by_new), Ok(4_194_428));
+        assert_eq!(made_after(67_108_861, by_new), Ok(4_294_967_228));
+        assert_eq!(made_after(67_108_862, by_new), Ok(4_294_967_292));
+        assert_eq!(made_after(67_108_863, by_new), Err(Cause::Spent));
+        assert_eq!(made_after(67_108_864, by_new), Err(Cause::Spoilt));
+        assert_eq!(made_after(u32::MAX, by_new), Err(Cause::Spoilt));
     }
-    let model = crafted::model(text);
-    let mut words = walk::start(&model);
-    words[0] = 65_536;
-    let refused = bm::step::step(&model, &mut words, Move::new([3, 0, 0, 0, 0]));
-    assert_eq!(refused, Err(Cause::Spoilt));
 }
 
 /// The false shortcut of places: the second site is hidden by its name.

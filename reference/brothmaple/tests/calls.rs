@@ -230,7 +230,7 @@ fn one_image_as_both() {
 
 #[test]
 fn spoilt_states_are_left_as_they_are() {
-    for (place, word) in [(0, 65_536), (1, 17), (2, 17), (4, 2), (2 * RECORD_WORDS, 1)] {
+    for (place, word) in [(0, 67_108_864), (1, 17), (2, 17), (4, 2), (2 * RECORD_WORDS, 1)] {
         let mut state = started();
         state[place] = word;
         let before = state.clone();

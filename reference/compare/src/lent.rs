@@ -1,7 +1,7 @@
 //! A lent state on both sides, called upon in the same way.
 
 use bm::cases::rng::Rng;
-use bm::state::STATE_WORDS;
+use bm::state::{RECORD_WORDS, STATE_WORDS};
 use bm::step::{Session, move_kind};
 use bm::{Cause, Model, Move, Refusal, calls};
 
@@ -58,6 +58,10 @@ impl Lent {
             format!("step {:?} on {len} words", mv.numbers())
         });
         report.tally.calls.stepped(mv, answer);
+        if answer.is_ok() && [move_kind::NEW, move_kind::EXPOSE].contains(&mv.kind) {
+            let record = self.rust.chunks(RECORD_WORDS).nth(mv.box_no as usize);
+            report.tally.calls.named(mv, record.expect("the box of a move that was made"));
+        }
         let causes = [Cause::NoSite, Cause::Unfit, Cause::Private];
         if mv.kind == move_kind::INTER && answer.is_err_and(|why| causes.contains(&why.cause)) {
             report.tally.calls.inter_refused(&self.inter_causes(model, mv));

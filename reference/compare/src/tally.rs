@@ -3,6 +3,8 @@
 use bm::cases::change::Change;
 use bm::cases::odd::ODDITIES;
 use bm::cases::spoil::SPOILINGS;
+use bm::names::{Held, MAX_STAMP, NameNo};
+use bm::step::move_kind;
 use bm::{Cause, Move, Refusal, ShutOff, Verdict};
 
 use crate::runs::LENDINGS;
@@ -118,12 +120,23 @@ const INTER_CAUSES: [(&str, &[Cause]); 5] = [
     ("18 and 17", &[Cause::Private, Cause::Unfit]),
 ];
 
+/// Stamps that are to be given by both moves that give one: the first beyond 16 bits, and the last.
+const STAMPS: [(&str, u32, u32); 4] = [
+    ("new, 65,536", move_kind::NEW, 1 << 16),
+    ("expose, 65,536", move_kind::EXPOSE, 1 << 16),
+    ("new, the last", move_kind::NEW, MAX_STAMP),
+    ("expose, the last", move_kind::EXPOSE, MAX_STAMP),
+];
+
 /// Calls on lent states.
 pub struct Calls {
     pub starts: Counts,
     pub steps: Counts,
     pub made: Counts,
     pub inter: Counts,
+    pub stamps: Counts,
+    /// The largest held name.
+    pub largest: Counts,
     pub spoilt: Counts,
     pub odd: Counts,
     /// States with words changed at random.
@@ -137,6 +150,8 @@ impl Calls {
             steps: Counts::numbered("step answered", 0..=20),
             made: Counts::numbered("kind of move made", 1..=9),
             inter: Counts::named("inter move meets", INTER_CAUSES.map(|(name, _)| name)),
+            stamps: Counts::named("stamp given", STAMPS.map(|(name, ..)| name)),
+            largest: Counts::named("largest held name", ["made"]),
             spoilt: Counts::of_changes("state spoilt", SPOILINGS),
             odd: Counts::of_changes("state odd and in order", ODDITIES),
             changed: Counts::named("words changed", ["spoilt", "in order"]),
@@ -151,6 +166,17 @@ impl Calls {
         self.steps.add(number(answer));
         if answer.is_ok() {
             self.made.add(mv.kind as usize - 1);
+        }
+    }
+
+    /// A move gave a stamp and left this record.
+    pub fn named(&mut self, mv: Move, record: &[u32]) {
+        let given = |(_, kind, stamp): &(&str, u32, u32)| (*kind, *stamp) == (mv.kind, record[0]);
+        if let Some(at) = STAMPS.iter().position(given) {
+            self.stamps.add(at);
+        }
+        if record.contains(&Held::new(NameNo(59), MAX_STAMP).0) {
+            self.largest.add(0);
         }
     }
 
@@ -202,10 +228,12 @@ impl Tally {
     }
 
     fn counts(&self) -> Vec<&Counts> {
-        let Calls { starts, steps, made, inter, spoilt, odd, changed } = &self.calls;
+        let Calls { starts, steps, made, inter, stamps, largest, spoilt, odd, changed } =
+            &self.calls;
         let Runs { answered, passed_over, made: made_in_runs, lent } = &self.runs;
         let mut counts = self.verdicts.verdicts().to_vec();
-        counts.extend([&self.verdicts.question, starts, steps, made, inter, spoilt, odd, changed]);
+        counts.extend([&self.verdicts.question, starts, steps, made, inter, stamps, largest]);
+        counts.extend([spoilt, odd, changed]);
         counts.extend([answered, passed_over, made_in_runs, lent]);
         counts
     }
@@ -240,9 +268,11 @@ mod tests {
     fn sound() -> Tally {
         let mut tally = Tally::new();
         let Verdicts { accepted, clauses, of_model, of_estimate, question } = &mut tally.verdicts;
-        let Calls { starts, steps, made, inter, spoilt, odd, changed } = &mut tally.calls;
+        let Calls { starts, steps, made, inter, stamps, largest, spoilt, odd, changed } =
+            &mut tally.calls;
         let others = [clauses, of_model, of_estimate, question, starts, steps, made, inter];
-        others.into_iter().chain([spoilt, odd, changed]).for_each(|counts| fill(counts, FEWEST));
+        let more = [stamps, largest, spoilt, odd, changed];
+        others.into_iter().chain(more).for_each(|counts| fill(counts, FEWEST));
         fill(accepted, 5 * FEWEST);
         fill_runs(&mut tally.runs, FEWEST);
         tally
@@ -272,6 +302,18 @@ mod tests {
         calls.inter_refused(&[Cause::Private, Cause::Unfit]);
         calls.inter_refused(&[Cause::Unfit]);
         assert_eq!(calls.inter.counts().collect::<Vec<u64>>(), [0, 1, 0, 0, 1]);
+    }
+
+    #[test]
+    fn stamps_given_are_counted() {
+        let mut calls = Tally::new().calls;
+        let [new, expose] = [3, 5].map(|kind| Move::new([kind, 0, 0, 0, 0]));
+        calls.named(new, &[65_536, 1, 0]);
+        calls.named(new, &[65_535, 1, 0]);
+        calls.named(expose, &[67_108_863, 4_294_967_291]);
+        calls.named(expose, &[67_108_863, 4_294_967_292]);
+        assert_eq!(calls.stamps.counts().collect::<Vec<u64>>(), [1, 0, 0, 2]);
+        assert_eq!(calls.largest.counts().collect::<Vec<u64>>(), [1]);
     }
 
     #[test]

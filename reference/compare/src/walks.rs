@@ -1,12 +1,14 @@
 //! Walks from a start: each step compared, made or refused, and the words after it.
 
-use bm::Model;
 use bm::cases::crafted::{self, EVERY_CLAUSE, PRIVATE_AND_MORE, REFUSED_MOVES, RefusedMove};
 use bm::cases::random::{self, Size};
 use bm::cases::rng::Rng;
 use bm::cases::walk::{self, Taste};
+use bm::names::MAX_STAMP;
 use bm::state::RECORD_WORDS;
+use bm::step::move_kind;
 use bm::write::Draft;
+use bm::{Model, Move};
 
 use crate::lent::Lent;
 use crate::report::{Part, Report};
@@ -31,6 +33,12 @@ pub fn some_model(rng: &mut Rng) -> Model {
     random::model(rng, size)
 }
 
+/// One of the last stamps of 16 bits, or of all.
+fn late_stamp(rng: &mut Rng) -> u32 {
+    let last = if rng.percent(50) { u16::MAX.into() } else { MAX_STAMP };
+    last - rng.below(3) as u32
+}
+
 /// A model and its image.
 pub struct Subject {
     pub model: Model,
@@ -42,10 +50,10 @@ impl Subject {
         Subject { image: Draft::of(&model).image(), model }
     }
 
-    /// Leaves the boxes of a state few stamps.
+    /// Leaves the boxes of a state few stamps, of 16 bits or of all.
     fn use_stamps(&self, rng: &mut Rng, lent: &mut Lent) {
         for box_no in 0..self.model.boxes().len() {
-            lent.put(box_no * RECORD_WORDS, 65_535 - rng.below(3) as u32);
+            lent.put(box_no * RECORD_WORDS, late_stamp(rng));
         }
     }
 
@@ -86,6 +94,20 @@ fn crafted_walk(report: &mut Report, rng: &mut Rng, refused: &RefusedMove) {
     subject.go_on(report, rng, &mut lent, Walk { moves: 5, taste: WILD });
 }
 
+/// Name 59 made twice, by new or by expose, with late stamps, and on from there.
+fn stamp_walk(report: &mut Report, rng: &mut Rng) {
+    let by_new = rng.percent(50);
+    let subject = Subject::new(crafted::last_name(by_new));
+    let mut lent = Lent::started(report, rng, &subject.image);
+    lent.put(0, late_stamp(rng));
+    let make = if by_new { move_kind::NEW } else { move_kind::EXPOSE };
+    let copy = [move_kind::COPY, 0, 0, 0, 0];
+    for mv in [copy, copy, [make, 0, 1, 0, 0], [make, 0, 2, 0, 0]] {
+        let _ = lent.step(&subject.image, Move::new(mv), report);
+    }
+    subject.go_on(report, rng, &mut lent, Walk { moves: 5, taste: WILD });
+}
+
 pub fn compare(report: &mut Report) {
     for number in 0..report.plan.cases {
         let mut rng = report.begin(WALKS, number);
@@ -93,5 +115,6 @@ pub fn compare(report: &mut Report) {
         let mut crafted = REFUSED_MOVES.iter().chain(&PRIVATE_AND_MORE);
         let at = rng.below(REFUSED_MOVES.len() + PRIVATE_AND_MORE.len());
         crafted_walk(report, &mut rng, crafted.nth(at).expect("a case at each place"));
+        stamp_walk(report, &mut rng);
     }
 }

@@ -18,6 +18,9 @@ loop-holds c = search limits
 last-stamp-requires : tie.Need-last-stamp-requires Inv-loop μ-loop
 last-stamp-requires c κs = search limits
 
+stamp-fits-requires : tie.Need-stamp-fits-requires Inv-loop μ-loop
+stamp-fits-requires c κs = search limits
+
 add-b : tie.Need-add-b Inv-loop μ-loop
 add-b c = search limits
 
@@ -38,6 +41,7 @@ stamps-fit-spec =
     μ-loop
     loop-holds
     last-stamp-requires
+    stamp-fits-requires
     add-b
     loop-less
     loop-again

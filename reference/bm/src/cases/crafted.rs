@@ -1,6 +1,7 @@
 //! Small models made for one refusal or clause each.
 
 use crate::model::Model;
+use crate::names::MAX_STAMP;
 use crate::step::Move;
 use crate::text::assemble;
 
@@ -26,6 +27,14 @@ pub fn image(text: &str) -> Vec<u8> {
 /// The model of a text.
 pub fn model(text: &str) -> Model {
     Model::read(&image(text)).expect("assembled models are accepted")
+}
+
+/// A model of 60 names, whose box makes the last of them over and over: by new
+/// or by expose.
+pub fn last_name(by_new: bool) -> Model {
+    let free: String = (0..59).map(|at| format!("f{at} ")).collect();
+    let (kind, line) = if by_new { ("restricted", "new n") } else { ("exposed", "expose n {f1}") };
+    model(&format!("free {free} {kind} n box site f0 {{f1}} !{line}.0"))
 }
 
 /// A list of moves whose last one is refused, and how.
@@ -90,7 +99,7 @@ pub const REFUSED_MOVES: [RefusedMove; 9] = [
         number: 20,
         text: "free x c restricted n box site x {c} !new n.0",
         moves: &[[4, 0, 0, 0, 0], [4, 0, 0, 0, 0], [3, 0, 1, 0, 0], [3, 0, 2, 0, 0]],
-        stamp: 65_534,
+        stamp: MAX_STAMP - 1,
     },
 ];
 

@@ -12,6 +12,7 @@ pub mod walk;
 
 use crate::estimate::Estimate;
 use crate::model::Model;
+use crate::names::MAX_STAMP;
 use crate::step::Move;
 use change::Change;
 use crafted::{EVERY_CLAUSE, REFUSED_MOVES};
@@ -296,12 +297,12 @@ impl Maker<'_> {
         for _ in 0..TRIES {
             let (model, mut words) = self.walked_words();
             for box_no in 0..model.boxes().len() {
-                words[box_no * crate::state::RECORD_WORDS] = 65_535 - self.rng.below(3) as u32;
+                words[box_no * crate::state::RECORD_WORDS] = MAX_STAMP - self.rng.below(3) as u32;
             }
             let begun = words.clone();
             let taste = Taste { allowed: 50, ..Taste::GROWING };
             let moves = walk::walk(self.rng, &model, &mut words, 60, taste);
-            let last = |record: &[u32]| record[0] == 65_535;
+            let last = |record: &[u32]| record[0] == MAX_STAMP;
             if words.chunks(crate::state::RECORD_WORDS).any(last) && begun != words {
                 return self.with_words(&model, begun, moves);
             }

@@ -1,7 +1,7 @@
 //! States that break one of the state rules each.
 
 use super::change::{Change, Hand, SITES_AT, THREADS_AT, changes};
-use crate::names::{Held, NameKind, NameNo};
+use crate::names::{Held, MAX_STAMP, NameKind, NameNo};
 use crate::state::{RECORD_WORDS, SITE_WORDS, THREAD_WORDS};
 
 changes! {
@@ -55,7 +55,7 @@ impl Hand<'_> {
 
     fn stamp(&mut self) -> Option<()> {
         let box_no = self.any_box()?;
-        let stamp = [65_536, 65_537, u32::MAX][self.rng.below(3)];
+        let stamp = [MAX_STAMP + 1, MAX_STAMP + 2, u32::MAX][self.rng.below(3)];
         self.put(box_no, 0, stamp)
     }
 
@@ -168,7 +168,7 @@ impl Hand<'_> {
     fn stamp_not_yet(&mut self) -> Option<()> {
         let (name, binder) = self.made_name()?;
         let stamp = self.record(binder).stamp() + 1;
-        self.put_held(Held::new(name, stamp))
+        if stamp > MAX_STAMP { None } else { self.put_held(Held::new(name, stamp)) }
     }
 
     /// A stamp that another box has reached but the binding box has not.

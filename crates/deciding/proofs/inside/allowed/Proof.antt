@@ -21,6 +21,9 @@ at-line-requires-3 c κs = search kinds
 stamp-requires : tie.Need-stamp-requires
 stamp-requires c κs = search kinds
 
+stamp-left-requires : tie.Need-stamp-left-requires
+stamp-left-requires c κs = search kinds
+
 or-unless-requires-2 : tie.Need-or-unless-requires-2
 or-unless-requires-2 c κs = search kinds
 
@@ -82,6 +85,7 @@ allowed-spec =
     or-unless-requires
     at-line-requires-3
     stamp-requires
+    stamp-left-requires
     or-unless-requires-2
     at-line-requires-4
     threads-requires-2

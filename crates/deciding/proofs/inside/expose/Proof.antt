@@ -12,6 +12,9 @@ sites-requires c κs = search kinds
 stamp-requires : tie.Need-stamp-requires
 stamp-requires c κs = search kinds
 
+stamp-left-requires : tie.Need-stamp-left-requires
+stamp-left-requires c κs = search kinds
+
 or-unless-requires : tie.Need-or-unless-requires
 or-unless-requires c κs = search kinds
 
@@ -28,6 +31,7 @@ expose-spec =
     at-line-requires
     sites-requires
     stamp-requires
+    stamp-left-requires
     or-unless-requires
     or-unless-requires-2
     returns)
