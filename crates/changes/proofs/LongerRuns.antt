@@ -82,20 +82,16 @@ step-as : (image words : List ℕ) (v : Move) → stepTo stampLimit image words 
 unfolding stepTo step stateRefusal
 step-as image words v = ap₂ (stepOf words) (refusal-as image words (length words isnt stateLength)) (moves-as (modelOf image) words v)
 
--- a move and those after it, with two limits
-acts-as : (k l : ℕ) (m : Model) (words : List ℕ) (v : Move) (vs : List Move) → actTo l m words v ≡ actTo k m words v
-    → actAllTo l m (outcomeWords words (actTo k m words v)) vs ≡ actAllTo k m (outcomeWords words (actTo k m words v)) vs
-    → actAllTo l m words (v ∷ vs) ≡ actAllTo k m words (v ∷ vs)
-unfolding actAllTo
-acts-as k l m words v vs e d =
-    ap (λ (o : Outcome (List ℕ)). actsOf o (actAllTo l m (outcomeWords words o) vs)) e ∙ ap (actsOf (actTo k m words v)) d
+-- a move that is answered alike, and those after it
+acts-same : (f g : List ℕ → MovesResult) (words : List ℕ) (o p : Outcome (List ℕ)) → o ≡ p → f (outcomeWords words p) ≡ g (outcomeWords words p)
+    → actsOf o (f (outcomeWords words o)) ≡ actsOf p (g (outcomeWords words p))
+acts-same f g words o p e d = ap (λ (x : Outcome (List ℕ)). actsOf x (f (outcomeWords words x))) e ∙ ap (actsOf p) d
 
 all-as : (m : Model) (words : List ℕ) (vs : List Move) → actAllTo stampLimit m words vs ≡ actAll m words vs
 unfolding actAllTo actAll
 all-as m words [] = refl
 all-as m words (v ∷ vs) =
-    ap (λ (o : Outcome (List ℕ)). actsOf o (actAllTo stampLimit m (outcomeWords words o) vs)) (moves-as m words v)
-    ∙ ap (actsOf (act m words v)) (all-as m (outcomeWords words (act m words v)) vs)
+    acts-same (λ w. actAllTo stampLimit m w vs) (λ w. actAll m w vs) words _ _ (moves-as m words v) (all-as m (outcomeWords words (act m words v)) vs)
 
 run-as : (image words : List ℕ) (vs : List Move) (answers : List ℕ) → runTo stampLimit image words vs answers ≡ run image words vs answers
 unfolding runTo run runRefusal
@@ -208,7 +204,7 @@ module _ (k l : ℕ) (more : k < l) where
   unfolding actAllTo
   all-more m [] words n = refl
   all-more m (v ∷ vs) words n =
-      acts-as k l m words v vs (act-more m words v (λ e. n zero (ap outcomeNumber e)))
+      acts-same (λ w. actAllTo l m w vs) (λ w. actAllTo k m w vs) words _ _ (act-more m words v (λ e. n zero (ap outcomeNumber e)))
       (all-more m vs (outcomeWords words (actTo k m words v)) (λ i. n (suc i)))
 
   run-more : (image words : List ℕ) (vs : List Move) (answers : List ℕ) → runTo k image words vs answers .answer ≢ some (unplaced 11)
@@ -258,6 +254,7 @@ last-low limit m st t b = pick (decLt b 8)
 abbrev Made : Outcome (List ℕ) → Type 0
 Made o = (w : List ℕ) × (o ≡ made w)
 
+-- past a test whose number is not 20, the edit behind, and the test of the stamp
 need-left : (b : Bool) (n : ℕ) (o p : Outcome (List ℕ)) → n ≢ 20 → (o ≡ refused 20 → Made p) → need b n o ≡ refused 20 → Made (need b n p)
 need-left true n o p h f e = f e
 need-left false n o p h f e = absurd (h (ap outcomeNumber e))
