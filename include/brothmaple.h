@@ -8,10 +8,11 @@
  *     bits  8 to 15    number: of the broken clause (1 to 9), or of the refusal (1 to 20)
  *     bits 16 to 31    first place
  *     bits 32 to 47    second place
- *     bits 48 to 63    zero
+ *     bits 48 to 55    name: of a broken clause, the name that is missing; else zero
+ *     bits 56 to 63    zero
  *
- * bm_tag, bm_number, bm_first and bm_second take them apart. An answer of 0 says that nothing is refused
- * and nothing is broken; of bm_copy_refused_block alone, that there is no block to copy. The places:
+ * bm_tag, bm_number, bm_first, bm_second and bm_name take them apart. An answer of 0 says that nothing is
+ * refused and nothing is broken; of bm_copy_refused_block alone, that there is no block to copy. The places:
  *
  *     refusals 1 to 5       the block, and 0 (where the length as a whole is wrong: 0 and 0)
  *     refusals 6 to 9       the box, and its record: a site for 6, a line for 7, 8 and 9
@@ -57,7 +58,7 @@ extern "C" {
 /* Which sort of answer it is. */
 enum bm_answer_tag {
     BM_TAG_NONE = 0,     /* nothing refused, nothing broken; of bm_copy_refused_block: bytes copied */
-    BM_TAG_CLAUSE = 1,   /* the estimate breaks a clause: its number, box and record */
+    BM_TAG_CLAUSE = 1,   /* the estimate breaks a clause: its number, box, record, and the missing name */
     BM_TAG_MODEL = 2,    /* the model is refused (1 to 9); of bm_refused_block: a part of the model */
     BM_TAG_ESTIMATE = 3, /* the estimate is refused (1 to 5); of bm_refused_block: a part of the estimate */
     BM_TAG_YES = 4,      /* the box is shut off */
@@ -131,9 +132,10 @@ uint64_t bm_read_estimate(const uint8_t *model, size_t model_bytes,
 
 /*
  * Checks an estimate: does it cover all that the model can do?
- * Answers 0 where it is accepted; BM_TAG_CLAUSE with the first clause that it breaks, the box, and the
- * name (clause 1), site (clause 2) or line; BM_TAG_MODEL or BM_TAG_ESTIMATE with the first refusal and its
- * places. Writes nothing.
+ * Answers 0 where it is accepted; BM_TAG_CLAUSE with the first clause that it breaks, the box, the name
+ * (clause 1), site (clause 2) or line, and the name that is missing: the lowest that the first set short
+ * lacks, in the order in which the clause asks for its sets; BM_TAG_MODEL or BM_TAG_ESTIMATE with the first
+ * refusal and its places. Writes nothing.
  */
 uint64_t bm_check(const uint8_t *model, size_t model_bytes,
                   const uint8_t *estimate, size_t estimate_bytes);
@@ -211,6 +213,10 @@ static inline uint32_t bm_first(uint64_t answer) {
 
 static inline uint32_t bm_second(uint64_t answer) {
     return (uint32_t)(answer >> 32) & 0xffff;
+}
+
+static inline uint32_t bm_name(uint64_t answer) {
+    return (uint32_t)(answer >> 48) & 0xff;
 }
 
 /* An answer of bm_refused_block: at which byte of its image the block starts, and how many bytes it has. */

@@ -43,8 +43,8 @@ static void tell(uint64_t answer, const char *in_order) {
         puts(in_order);
         return;
     case BM_TAG_CLAUSE:
-        printf("No: clause %u is broken, box %u, record %u.\n", bm_number(answer), bm_first(answer),
-               bm_second(answer));
+        printf("No: clause %u is broken, box %u, record %u: name %u is missing.\n", bm_number(answer),
+               bm_first(answer), bm_second(answer), bm_name(answer));
         return;
     case BM_TAG_MODEL:
         tell_refusal("The model is", answer);

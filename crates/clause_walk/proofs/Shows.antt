@@ -3,6 +3,7 @@ use mathlib.Core.Path.{_≡_, sym, ap, subst, _∙_}
 use mathlib.Core.Bool.{Bool, true, false}
 use mathlib.Core.List.{List}
 use mathlib.Core.Logic.{inl, inr}
+use mathlib.Core.Option.{none}
 use Prim.Native.Nat.{ℕ, _+_, _*_, _/_, _%_, _≤_, _<_}
 use native.Mathlib.Nat.{not-suc-le-zero}
 use native.Mathlib.Omega.{arith}
@@ -16,9 +17,10 @@ use Rattle.definitions.specs.Bounded.{_and_, _is_, anyBelow}
 use Rattle.definitions.specs.Sets.{has, forEach, within}
 use Rattle.definitions.specs.Model as paper
 use Rattle.definitions.specs.Estimate.{Estimate, estimateOf}
-use Rattle.definitions.specs.Clauses.{clause3, clause4, clause5, clause6, clause7, clause8, clause9}
+use Rattle.definitions.specs.Clauses.{clause5, clause6}
 use Rattle.definitions.proofs.Bounded.{and-iff, is-iff, any-iff, true-of, of-true}
 use Rattle.definitions.proofs.Sets.{forEach-iff, within-iff, within-trans}
+use Rattle.definitions.proofs.Clauses.{sets, clause3-iff, clause4-iff, clause7-iff, clause8-iff, clause9-iff}
 use Rattle.definitions.proofs.Loops.{fails, holds}
 use Rattle.records.specs.declared.Line.{Line}
 use Rattle.records.specs.Records.{lineIn}
@@ -26,10 +28,10 @@ use Rattle.records.specs.Places.{lineRecordAt}
 use Rattle.sets.specs.Names.{NamesOnly}
 use Rattle.sets.proofs.Walk.{walk-less, each-start, each-turn, each-stop, each-end}
 use Rattle.clauses.specs.Known.{BoxOfNames, EstimateOfNames, LineOfNames}
-use Rattle.clauses.proofs.Members.{left-62, left-64, has-as, names-rho}
+use Rattle.clauses.proofs.Members.{left-62, left-64, has-as, names-rho, rho-names, box-62, names-62, second-62, box-there, boxed}
 use Rattle.sharing.specs.declared.Gathered.{Gathered}
 use Rattle.sharing.specs.Shared.{Least, allSentIn, sentByOthers, sharedOn, maySend, GatheredOf}
-use Rattle.sharing.proofs.Gather.{others-on, nothing-of, five-is, six-is}
+use Rattle.sharing.proofs.Gather.{others-on, nothing-of, five-met, six-met}
 use Rattle.line_gather.specs.Gathered.{LinesOfNames, Gathers}
 use Rattle.clause_walk.specs.Lines.{OpsOfNames, ListOfNames, NotExpose, NamesPass, ShowsNames, ListedPass, ShowsListed, ShowsList, LinePasses, ShowsLines}
 
@@ -80,16 +82,15 @@ module _ (e : Estimate) (boxes b : ℕ) (l : paper.Line) where
   }
 
   module _ (s all : ℕ) (es : s ≡ e .rho (l .name1)) (other : NotExpose l) (least : Least all (allSentIn e b s)) (five : Bool) (f : five ≡ within all (e .rho (l .name2))) (t : five ≡ true) where
-    clause-5 : T (clause5 e b l)
-    clause-5 = of-true (sym (five-is e b l) ∙ ap (λ (x : ℕ). allSentIn e b x (e .rho (l .name2))) (sym es) ∙ sym (least .same (e .rho (l .name2))) ∙ sym f ∙ t)
+    clause-5 : clause5 e b l ≡ none
+    clause-5 = five-met e b l (of-true (ap (λ (x : ℕ). allSentIn e b x (e .rho (l .name2))) (sym es) ∙ sym (least .same (e .rho (l .name2))) ∙ sym f ∙ t))
 
     -- an input: all that other boxes may send is in rho(q)
     pub listed-others : (w : ℕ) (r : Bool) → Least w (sentByOthers e boxes b) → r ≡ within w (e .rho (l .name2)) → r ≡ true → ShowsListed e boxes b l true
     listed-others w r o er u = record {
       shows = λ _. record {
         five = λ _. clause-5;
-        six = λ _. of-true (sym (six-is e boxes b l) ∙ true-of (sharedOn e boxes b (e .rho (l .name1)) (e .rho (l .name2)))
-            (others-on e boxes b w (e .rho (l .name2)) (e .rho (l .name1)) o (of-true (sym er ∙ u))));
+        six = λ _. six-met e boxes b l (others-on e boxes b w (e .rho (l .name2)) (e .rho (l .name1)) o (of-true (sym er ∙ u)));
         type = λ z. absurd (other .other z);
       };
     }
@@ -99,7 +100,7 @@ module _ (e : Estimate) (boxes b : ℕ) (l : paper.Line) where
     listed-asks w r a er = record {
       shows = λ u. record {
         five = λ _. clause-5;
-        six = λ _. of-true (sym (six-is e boxes b l) ∙ ap (λ (x : ℕ). sharedOn e boxes b x (e .rho (l .name2))) (sym es) ∙ sym (a .same (e .rho (l .name2))) ∙ sym er ∙ true-of r u);
+        six = λ _. six-met e boxes b l (of-true (ap (λ (x : ℕ). sharedOn e boxes b x (e .rho (l .name2))) (sym es) ∙ sym (a .same (e .rho (l .name2))) ∙ sym er ∙ true-of r u));
         type = λ z. absurd (other .other z);
       };
     }
@@ -108,26 +109,8 @@ pub all-as : (e : Estimate) (boxes b s : ℕ) (g : Gathered) → GatheredOf e bo
 all-as e boxes b s g h eo = rw eo at (h .all)
 
 -- what the calls require
-pub rho-names : (image : List ℕ) (boxes s : ℕ) (l : Line) → EstimateOfNames image boxes → LineOfNames (lineIn l) → s ≡ estimateOf image .rho (l .name1 .0) → NamesOnly s
-rho-names image boxes s l f h e = rw e (f .rho (l .name1 .0) (omega (arith, h .first)))
-
-pub box-62 : (image : List ℕ) (boxes b : ℕ) → EstimateOfNames image boxes → b < boxes → 512 * (3 + 2 * b) ≤ length image
-box-62 image boxes b f h = omega (arith, f .there)
-
-pub names-62 : (l : Line) → LineOfNames (lineIn l) → l .name1 .0 < 62
-names-62 l f = omega (arith, f .first)
-
-pub second-62 : (image : List ℕ) (boxes : ℕ) → EstimateOfNames image boxes → 512 ≤ length image
-second-62 image boxes f = omega (arith, f .there)
-
 pub type-names : (l : Line) → LineOfNames (lineIn l) → NamesOnly (l .names)
 type-names l f = f .type
-
-pub box-there : (image : List ℕ) (b : ℕ) → BoxOfNames image b → 512 * (3 + 2 * b) ≤ length image
-box-there image b f = f .there
-
-pub boxed : (image : List ℕ) (boxes b : ℕ) → EstimateOfNames image boxes → b < boxes → BoxOfNames image b
-boxed image boxes b f h = record { there = omega (arith, f .there); rho = f .rho; shown = f .shown b h }
 
 pub not-expose : (l : Line) → (l .op ≡ 6 → ⊥) → NotExpose (lineIn l)
 not-expose l f = record { other = f }
@@ -224,31 +207,32 @@ module _ (model estimate : List ℕ) (k n c : ℕ) (ops sent listed : List ℕ) 
           f (subst (λ (y : ℕ). ListedPass (estimateOf estimate) boxes b (lineRecordAt model k y)) (is-iff (getD listed (x .0) 0) i .0 (x .2)) (list (x .0) (x .1)))
 
       one-line : LinePasses (estimateOf estimate) boxes b l
-      unfolding l clause3 clause4 clause7 clause8 clause9 maySend
+      unfolding l maySend
       one-line = record {
-        three = λ z. forEach-iff (getD ops 3 0) (λ n. has (estimateOf estimate .rho n) n) .0 (names .restricted) (l .name1) first (in-ops 3 (omega arith) z);
+        three = λ z.
+            clause3-iff (estimateOf estimate) b l .1
+            (forEach-iff (getD ops 3 0) (λ n. has (estimateOf estimate .rho n) n) .0 (names .restricted) (l .name1) first (in-ops 3 (omega arith) z));
         four = λ z.
             let may = forEach-iff on (λ p. maySend (estimateOf estimate) b (estimateOf estimate .rho p) (getD sent p 0)) .0 outputs (l .name1) first
             (subst (λ (x : ℕ). T (has x (l .name1))) (sym eo) (in-ops 4 (omega arith) z)) in
-            forEach-iff (estimateOf estimate .rho (l .name1)) (λ a. within (estimateOf estimate .rho (l .name2)) (estimateOf estimate .kap b a)) .1
-            (λ a u v. within-trans (estimateOf estimate .rho (l .name2)) (getD sent (l .name1) 0) (estimateOf estimate .kap b a) (g .sends i h z)
-            (forEach-iff (estimateOf estimate .rho (l .name1)) (λ a. within (getD sent (l .name1) 0) (estimateOf estimate .kap b a)) .0 may a u v));
-        five = λ z. in-list (λ y. T (clause5 (estimateOf estimate) b y)) (λ p. p .five z) (g .lists i h (inl z));
-        six = λ z. in-list (λ y. T (clause6 (estimateOf estimate) boxes b y)) (λ p. p .six z) (g .lists i h (inl z));
+            clause4-iff (estimateOf estimate) b l .1
+            (λ a u v. within-iff (estimateOf estimate .rho (l .name2)) (estimateOf estimate .kap b a) .0
+            (within-trans (estimateOf estimate .rho (l .name2)) (getD sent (l .name1) 0) (estimateOf estimate .kap b a) (g .sends i h z)
+            (forEach-iff (estimateOf estimate .rho (l .name1)) (λ a. within (getD sent (l .name1) 0) (estimateOf estimate .kap b a)) .0 may a u v)));
+        five = λ z. in-list (λ y. clause5 (estimateOf estimate) b y ≡ none) (λ p. p .five z) (g .lists i h (inl z));
+        six = λ z. in-list (λ y. clause6 (estimateOf estimate) boxes b y ≡ none) (λ p. p .six z) (g .lists i h (inl z));
         seven = λ z.
             let o = in-ops 6 (omega arith) z in
-            let x = has (estimateOf estimate .rho (l .name1)) (l .name1) in
-            let y = has (estimateOf estimate .shown b) (l .name1) in
-            let w = forEach (l .type) (λ t. within (estimateOf estimate .rho t) (estimateOf estimate .eps b (l .name1))) in
-            and-iff (x and y) w .1 (
-              and-iff x y .1 (
-                forEach-iff (getD ops 6 0) (λ n. has (estimateOf estimate .rho n) n) .0 (names .exposed) (l .name1) first o,
-                within-iff (getD ops 6 0) (estimateOf estimate .shown b) .0 (names .shown) (l .name1) first o,
-              ),
-              in-list (λ y. T (forEach (y .type) (λ t. within (estimateOf estimate .rho t) (estimateOf estimate .eps b (y .name1))))) (λ p. p .type z) (g .lists i h (inr z)),
-            );
-        eight = λ z. forEach-iff (getD ops 7 0) (λ p. within (estimateOf estimate .rho p) (estimateOf estimate .hidden b)) .0 (names .hides) (l .name1) first (in-ops 7 (omega arith) z);
-        nine = λ z. forEach-iff (getD ops 8 0) (λ p. within (estimateOf estimate .rho p) (estimateOf estimate .shown b)) .0 (names .unhides) (l .name1) first (in-ops 8 (omega arith) z);
+            let t = in-list (λ y. T (forEach (y .type) (λ t. within (estimateOf estimate .rho t) (estimateOf estimate .eps b (y .name1))))) (λ p. p .type z) (g .lists i h (inr z)) in
+            clause7-iff (estimateOf estimate) b l .1 (record {
+              self = forEach-iff (getD ops 6 0) (λ n. has (estimateOf estimate .rho n) n) .0 (names .exposed) (l .name1) first o;
+              shown = within-iff (getD ops 6 0) (estimateOf estimate .shown b) .0 (names .shown) (l .name1) first o;
+              type = simp sets at t;
+            });
+        eight = λ z. clause8-iff (estimateOf estimate) b l .1 (within-iff (estimateOf estimate .rho (l .name1)) (estimateOf estimate .hidden b) .0
+            (forEach-iff (getD ops 7 0) (λ p. within (estimateOf estimate .rho p) (estimateOf estimate .hidden b)) .0 (names .hides) (l .name1) first (in-ops 7 (omega arith) z)));
+        nine = λ z. clause9-iff (estimateOf estimate) b l .1 (within-iff (estimateOf estimate .rho (l .name1)) (estimateOf estimate .shown b) .0
+            (forEach-iff (getD ops 8 0) (λ p. within (estimateOf estimate .rho p) (estimateOf estimate .shown b)) .0 (names .unhides) (l .name1) first (in-ops 8 (omega arith) z)));
       }
 
     pub lines-yes : (on : ℕ) (named outs r : Bool) → ShowsNames (estimateOf estimate) b ops named → named ≡ true → on ≡ getD ops 4 0

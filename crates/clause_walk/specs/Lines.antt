@@ -2,6 +2,7 @@
 use mathlib.Core.Path.{_≡_}
 use mathlib.Core.Bool.{Bool}
 use mathlib.Core.List.{List}
+use mathlib.Core.Option.{none}
 use Prim.Native.Nat.{ℕ, _+_, _*_, _/_, _≤_, _<_}
 use lib.Dec.{T}
 use lib.ListN.{length, getD}
@@ -43,8 +44,8 @@ module _ (e : Estimate) where
 
   -- clauses 5 and 6 at an input, and the type of an expose
   pub record ListedPass (boxes b : ℕ) (l : Line) : Type 0 where
-    pub five : l .op ≡ input → T (clause5 e b l)
-    pub six : l .op ≡ input → T (clause6 e boxes b l)
+    pub five : l .op ≡ input → clause5 e b l ≡ none
+    pub six : l .op ≡ input → clause6 e boxes b l ≡ none
     pub type : l .op ≡ expose → T (forEach (l .type) (λ g. within (e .rho g) (e .eps b (l .name1))))
 
   pub record ShowsListed (boxes b : ℕ) (l : Line) (r : Bool) : Type 0 where
@@ -52,13 +53,13 @@ module _ (e : Estimate) where
 
   -- no clause is broken at a line
   pub record LinePasses (boxes b : ℕ) (l : Line) : Type 0 where
-    pub three : l .op ≡ restriction → T (clause3 e l)
-    pub four : l .op ≡ output → T (clause4 e b l)
-    pub five : l .op ≡ input → T (clause5 e b l)
-    pub six : l .op ≡ input → T (clause6 e boxes b l)
-    pub seven : l .op ≡ expose → T (clause7 e b l)
-    pub eight : l .op ≡ hide → T (clause8 e b l)
-    pub nine : l .op ≡ unhide → T (clause9 e b l)
+    pub three : l .op ≡ restriction → clause3 e l ≡ none
+    pub four : l .op ≡ output → clause4 e b l ≡ none
+    pub five : l .op ≡ input → clause5 e b l ≡ none
+    pub six : l .op ≡ input → clause6 e boxes b l ≡ none
+    pub seven : l .op ≡ expose → clause7 e b l ≡ none
+    pub eight : l .op ≡ hide → clause8 e b l ≡ none
+    pub nine : l .op ≡ unhide → clause9 e b l ≡ none
 
 -- the lines of a list
 pub record ShowsList (model : List ℕ) (e : Estimate) (boxes b k : ℕ) (listed : List ℕ) (c : ℕ) (r : Bool) : Type 0 where

@@ -1,18 +1,24 @@
 -- A walk over the members of a set of names; and tests on what called functions answered. Assumes nothing.
-use mathlib.Core.Path.{_≡_, ap, ap₂, _∙_}
+use mathlib.Core.Path.{_≡_, sym, ap, ap₂, _∙_}
 use mathlib.Core.Bool.{Bool}
 use mathlib.Core.List.{List}
-use Prim.Native.Nat.{ℕ, _<_}
+use mathlib.Core.Option.{Option}
+use Prim.Native.Nat.{ℕ, _+_, _*_, _≤_, _<_}
 use native.Mathlib.Omega.{arith}
 use borrow.Author.Needs.{needs}
-use Rattle.definitions.specs.Bounded.{_or_}
-use Rattle.definitions.specs.Sets.{has, within}
-use Rattle.definitions.specs.Estimate.{estimateOf}
+use Rattle.definitions.specs.Bounded.{_and_, _or_}
+use Rattle.definitions.specs.Sets.{has, absent, missing, within}
+use Rattle.definitions.specs.Estimate.{Estimate, estimateOf}
+use Rattle.definitions.proofs.Bounded.{and-iff, true-of, of-true}
 use Rattle.definitions.proofs.Loops.{fails, holds}
+use lib.ListN.{length}
+use Rattle.records.specs.declared.Line.{Line}
+use Rattle.records.specs.Records.{lineIn}
 use Rattle.sets.specs.Lowest.{lowestOf}
 use Rattle.sets.specs.Names.{NamesOnly}
 use Rattle.sets.proofs.Walk.{Left, left-name, lowest-below, walk-less, each-start, each-turn, each-stop, each-end}
-use Rattle.clauses.specs.Known.{BoxOfNames, EstimateOfNames}
+use Rattle.subsets.proofs.Walk.{short-start, short-turn, short-stop, short-end}
+use Rattle.clauses.specs.Known.{BoxOfNames, EstimateOfNames, LineOfNames}
 
 pub left-62 : (s left n : ℕ) → NamesOnly s → Left s left → (left ≡ 0 → ⊥) → n ≡ lowestOf left → n < 62
 left-62 s left n f w z e = omega (arith, left-name s left n f w z e)
@@ -33,6 +39,13 @@ module _ (x y u v : ℕ) (r : Bool) where
   pub within-as : r ≡ within x y → x ≡ u → y ≡ v → r ≡ within u v
   within-as e f g = e ∙ ap₂ within f g
 
+module _ (x y u v : ℕ) (r : Option ℕ) where
+  pub absent-as : r ≡ absent x y → x ≡ u → r ≡ absent u y
+  absent-as e f = e ∙ ap (λ (z : ℕ). absent z y) f
+
+  pub missing-as : r ≡ missing x y → x ≡ u → y ≡ v → r ≡ missing u v
+  missing-as e f g = e ∙ ap₂ missing f g
+
 -- rho(n) and shown(b), as the code has them, are sets of names
 pub names-rho : (image : List ℕ) (b n s : ℕ) → BoxOfNames image b → n < 62 → s ≡ estimateOf image .rho n → NamesOnly s
 names-rho image b n s k h e = rw e (k .rho n h)
@@ -40,4 +53,36 @@ names-rho image b n s k h e = rw e (k .rho n h)
 pub names-shown : (image : List ℕ) (boxes b s : ℕ) → EstimateOfNames image boxes → b < boxes → s ≡ estimateOf image .shown b → NamesOnly s
 names-shown image boxes b s k h e = rw e (k .shown b h)
 
+-- so are the members of one that another has too
+pub names-both : (e : Estimate) (b s d y : ℕ) → NamesOnly s → y ≡ e .shown b → ((m : ℕ) → has d m ≡ (has s m and has y m)) → NamesOnly d
+names-both e b s d y f ey both = record { below = λ n l t. f .below n l (and-iff (has s n) (has y n) .0 (of-true (sym (both n) ∙ true-of (has d n) t)) .0) }
+
+-- ---- what the calls require
+
+pub rho-names : (image : List ℕ) (boxes s : ℕ) (l : Line) → EstimateOfNames image boxes → LineOfNames (lineIn l) → s ≡ estimateOf image .rho (l .name1 .0) → NamesOnly s
+rho-names image boxes s l f h e = rw e (f .rho (l .name1 .0) (omega (arith, h .first)))
+
+pub box-62 : (image : List ℕ) (boxes b : ℕ) → EstimateOfNames image boxes → b < boxes → 512 * (3 + 2 * b) ≤ length image
+box-62 image boxes b f h = omega (arith, f .there)
+
+pub names-62 : (l : Line) → LineOfNames (lineIn l) → l .name1 .0 < 62
+names-62 l f = omega (arith, f .first)
+
+pub second-62 : (image : List ℕ) (boxes : ℕ) → EstimateOfNames image boxes → 512 ≤ length image
+second-62 image boxes f = omega (arith, f .there)
+
+pub box-there : (image : List ℕ) (b : ℕ) → BoxOfNames image b → 512 * (3 + 2 * b) ≤ length image
+box-there image b f = f .there
+
+pub boxed : (image : List ℕ) (boxes b : ℕ) → EstimateOfNames image boxes → b < boxes → BoxOfNames image b
+boxed image boxes b f h = record { there = omega (arith, f .there); rho = f .rho; shown = f .shown b h }
+
+pub box-512 : (image : List ℕ) (b : ℕ) → BoxOfNames image b → 512 ≤ length image
+box-512 image b f = omega (arith, f .there)
+
+pub box-1024 : (image : List ℕ) (b : ℕ) → BoxOfNames image b → 512 * (2 + 2 * b) ≤ length image
+box-1024 image b f = omega (arith, f .there)
+
 pub ruleset walks = (needs, fails, holds, walk-less, left-62, left-64, each-start, each-turn, each-stop, each-end, has-as, within-as, names-rho)
+
+pub ruleset shorts = (needs, walk-less, left-62, left-64, short-start, short-turn, short-stop, short-end, absent-as, missing-as, names-rho)

@@ -3,6 +3,7 @@
 use mathlib.Core.Path.{_≡_}
 use mathlib.Core.Bool.{Bool}
 use mathlib.Core.List.{List}
+use mathlib.Core.Option.{Option}
 use Prim.Native.Nat.{ℕ, _+_, _*_, _≤_, _<_}
 use lib.ListN.{length}
 use Rattle.definitions.specs.Bounded.{_is_}
@@ -30,6 +31,6 @@ pub record LineOfNames (l : Line) : Type 0 where
   pub second : l .name2 < 60
   pub type : NamesOnly (l .type)
 
--- r is clause 1 at n, for each list of kinds where `free` says whether n is free
-pub record Clause1Of (e : Estimate) (free : Bool) (n : ℕ) (r : Bool) : Type 0 where
+-- r is what clause 1 gives at n, for each list of kinds where `free` says whether n is free
+pub record Clause1Of (e : Estimate) (free : Bool) (n : ℕ) (r : Option ℕ) : Type 0 where
   pub same : (kinds : List ℕ) → free ≡ (kindOfName kinds n is 0) → r ≡ clause1 e kinds n

@@ -1,20 +1,19 @@
--- Each clause as a statement about members, as document 01 has it; the tests say the same, and no clause is the first broken one
--- exactly when all are met everywhere. Assumes nothing.
-use mathlib.Core.Path.{_≡_}
-use mathlib.Core.Bool.{Bool, true, false, not}
+-- Each clause as a statement about members, as document 01 has it: no name is missing exactly when it holds, and no clause is the first
+-- broken one exactly when all hold everywhere. Assumes nothing.
+use mathlib.Core.Path.{_≡_, refl}
+use mathlib.Core.Bool.{true}
 use mathlib.Core.List.{List}
 use mathlib.Core.Logic.{_↔_, _≢_}
-use mathlib.Core.Option.{none}
+use mathlib.Core.Option.{Option, none, some}
 use Prim.Native.Nat.{ℕ, _<_}
 use lib.Dec.{T}
 use lib.ListN.{length}
-use Rattle.definitions.specs.Bounded.{_and_, _is_, someIf}
 use Rattle.definitions.specs.Sets.{has}
 use Rattle.definitions.specs.Model.{Site, Line, Model, siteAt, lineAt, boxAt, siteCount, lineCount, boxCount, kindOfName, restriction, output, input, expose, hide, unhide}
 use Rattle.definitions.specs.Estimate.{Estimate}
-use Rattle.definitions.specs.Clauses.{clause1, clause2, clause3, clause4, clause5, clause6, clause7, clause8, clause9, asks, lineBroken, nameBroken, siteBroken, boxBroken, firstBroken}
-use Rattle.definitions.proofs.Bounded.{tests, and-iff, is-iff, fault-none, none-fault}
-use Rattle.definitions.proofs.Sets.{forEach-iff, forSome-iff, within-iff, meets-iff}
+use Rattle.definitions.specs.Clauses.{clause1, clause2, clause3, clause4, clause5, clause6, clause7, clause8, clause9, broken, brokenAt, lineBroken, nameBroken, siteBroken, boxBroken, firstBroken}
+use Rattle.definitions.proofs.Bounded.{tests, fault-none}
+use Rattle.definitions.proofs.Sets.{forEach-iff, forSome-iff, short-iff, absent-iff, missing-iff, within-iff, meets-iff}
 use Rattle.definitions.proofs.Faults.{faults, not-iff}
 
 -- ---- sets of names, which are below 64
@@ -33,8 +32,10 @@ Within a b = Each a (λ n. T (has b n))
 abbrev pub Share : ℕ → ℕ → Type 0
 Share a b = Some a (λ n. T (has b n))
 
--- `simp sets` turns a test on members into what it says of them, and back
+-- `simp sets` turns a test on members into what it says of them, and back; `simp shorts` turns "no name is missing" into it
 pub ruleset sets = (tests, not-iff, forEach-iff, forSome-iff, within-iff, meets-iff)
+
+pub ruleset shorts = (sets, faults, short-iff, absent-iff, missing-iff)
 
 -- ---- the clauses
 
@@ -82,59 +83,56 @@ module _ (e : Estimate) where
   abbrev pub Clause9 : ℕ → Line → Type 0
   Clause9 b l = Within (e .rho (l .name1)) (e .shown b)
 
-  -- each test says what its clause says
-  pub clause1-iff : (kinds : List ℕ) (n : ℕ) → T (clause1 e kinds n) ↔ Clause1 kinds n
+  -- no name is missing exactly when the clause is met
+  pub clause1-iff : (kinds : List ℕ) (n : ℕ) → (clause1 e kinds n ≡ none) ↔ Clause1 kinds n
   unfolding clause1
-  clause1-iff kinds n = (λ t. simp sets at t, λ c. simp sets c)
+  clause1-iff kinds n = (λ t. simp shorts at t, λ c. simp shorts c)
 
-  pub clause2-iff : (b : ℕ) (s : Site) → T (clause2 e b s) ↔ Clause2 b s
+  pub clause2-iff : (b : ℕ) (s : Site) → (clause2 e b s ≡ none) ↔ Clause2 b s
   unfolding clause2
   clause2-iff b s = (
-    λ t. let p = simp sets at t in record { shown = p .0 .0; hidden = p .0 .1; type = p .1 },
-    λ c. simp sets ((c .shown, c .hidden), c .type),
+    λ t. let p = simp shorts at t in record { shown = p .0; hidden = p .1 .0; type = p .1 .1 },
+    λ c. simp shorts (c .shown, (c .hidden, c .type)),
   )
 
   module _ (b : ℕ) (l : Line) where
-    pub clause3-iff : T (clause3 e l) ↔ Clause3 l
+    pub clause3-iff : (clause3 e l ≡ none) ↔ Clause3 l
     unfolding clause3
-    clause3-iff = (λ t. t, λ c. c)
+    clause3-iff = absent-iff (e .rho (l .name1)) (l .name1)
 
-    pub clause4-iff : T (clause4 e b l) ↔ Clause4 b l
+    pub clause4-iff : (clause4 e b l ≡ none) ↔ Clause4 b l
     unfolding clause4
-    clause4-iff = (λ t. simp sets at t, λ c. simp sets c)
+    clause4-iff = (λ t. simp shorts at t, λ c. simp shorts c)
 
-    pub clause5-iff : T (clause5 e b l) ↔ Clause5 b l
+    pub clause5-iff : (clause5 e b l ≡ none) ↔ Clause5 b l
     unfolding clause5
-    clause5-iff = (λ t. simp sets at t, λ c. simp sets c)
+    clause5-iff = (λ t. simp shorts at t, λ c. simp shorts c)
 
-    pub clause6-iff : (boxes : ℕ) → T (clause6 e boxes b l) ↔ Clause6 boxes b l
+    pub clause6-iff : (boxes : ℕ) → (clause6 e boxes b l ≡ none) ↔ Clause6 boxes b l
     unfolding clause6
-    clause6-iff boxes = (λ t. simp sets at t, λ c. simp sets c)
+    clause6-iff boxes = (λ t. simp shorts at t, λ c. simp shorts c)
 
-    pub clause7-iff : T (clause7 e b l) ↔ Clause7 b l
+    pub clause7-iff : (clause7 e b l ≡ none) ↔ Clause7 b l
     unfolding clause7
     clause7-iff = (
-      λ t. let p = simp sets at t in record { self = p .0 .0; shown = p .0 .1; type = p .1 },
-      λ c. simp sets ((c .self, c .shown), c .type),
+      λ t. let p = simp shorts at t in record { self = p .0; shown = p .1 .0; type = p .1 .1 },
+      λ c. simp shorts (c .self, (c .shown, c .type)),
     )
 
-    pub clause8-iff : T (clause8 e b l) ↔ Clause8 b l
+    pub clause8-iff : (clause8 e b l ≡ none) ↔ Clause8 b l
     unfolding clause8
-    clause8-iff = (λ t. simp sets at t, λ c. simp sets c)
+    clause8-iff = (λ t. simp shorts at t, λ c. simp shorts c)
 
-    pub clause9-iff : T (clause9 e b l) ↔ Clause9 b l
+    pub clause9-iff : (clause9 e b l ≡ none) ↔ Clause9 b l
     unfolding clause9
-    clause9-iff = (λ t. simp sets at t, λ c. simp sets c)
+    clause9-iff = (λ t. simp shorts at t, λ c. simp shorts c)
 
 -- ---- all clauses, everywhere
 
--- a line of an operation is asked a question
-pub asked-iff : {A : Type 0} (op n : ℕ) (ok : Bool) (a : A) → (someIf (op is n and not ok) a ≡ none) ↔ (op ≡ n → T ok)
-asked-iff op n true a = (λ e q. tt, λ f. none-fault (op is n and false) a (λ t. and-iff (op is n) false .0 t .1))
-asked-iff op n false a = (
-  λ e q. fault-none (op is n and true) a e (and-iff (op is n) true .1 (is-iff op n .1 q, tt)),
-  λ f. none-fault (op is n and true) a (λ t. f (is-iff op n .0 (and-iff (op is n) true .0 t .0))),
-)
+-- no clause is broken where no name is missing
+pub at-iff : (n b i : ℕ) (o : Option ℕ) → (brokenAt n b i o ≡ none) ↔ (o ≡ none)
+at-iff n b i none = (λ e. refl, λ e. refl)
+at-iff n b i (some x) = (λ e. absurd (fault-none true (broken n b i x) e tt), λ e. absurd (fault-none true x e tt))
 
 module _ (m : Model) (e : Estimate) where
   -- the clauses of a line, by its operation
@@ -152,10 +150,10 @@ module _ (m : Model) (e : Estimate) where
     pub sites : (b : ℕ) → b < boxCount m → (i : ℕ) → i < siteCount (boxAt m b) → Clause2 e b (siteAt (boxAt m b) i)
     pub lines : (b : ℕ) → b < boxCount m → (i : ℕ) → i < lineCount (boxAt m b) → LineClauses b (lineAt (boxAt m b) i)
 
-  ruleset clauses = (faults, asked-iff, clause1-iff, clause2-iff, clause3-iff, clause4-iff, clause5-iff, clause6-iff, clause7-iff, clause8-iff, clause9-iff)
+  ruleset clauses = (tests, faults, at-iff, clause1-iff, clause2-iff, clause3-iff, clause4-iff, clause5-iff, clause6-iff, clause7-iff, clause8-iff, clause9-iff)
 
   pub line-iff : (b i : ℕ) → (lineBroken m e b i ≡ none) ↔ LineClauses b (lineAt (boxAt m b) i)
-  unfolding lineBroken asks
+  unfolding lineBroken
   line-iff b i = (
     λ z. let p = simp clauses at z in
         record {

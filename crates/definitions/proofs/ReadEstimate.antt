@@ -83,6 +83,7 @@ table-names image names k asked box f i h a t =
 pub record EstimateFits (names boxes : ℕ) (image : List ℕ) : Type 0 where
   pub size : length image ≡ 512 * (1 + 2 * boxes)
   pub rho : (n : ℕ) → n < 62 → (a : ℕ) → T (has (estimateOf image .rho n) a) → a < names
+  pub kap : (b : ℕ) → b < boxes → (n : ℕ) → n < 62 → (a : ℕ) → T (has (estimateOf image .kap b n) a) → a < names
   pub shown : (b : ℕ) → b < boxes → (a : ℕ) → T (has (estimateOf image .shown b) a) → a < names
 
 pub estimate-fits : (names boxes : ℕ) (image : List ℕ) → readEstimate names boxes image ≡ none → EstimateFits names boxes image
@@ -92,5 +93,6 @@ estimate-fits names boxes image e =
     record {
       size = r .size;
       rho = table-names image names 0 4 0 (r .rho);
+      kap = λ b l. table-names image names (kapBlock b) 6 b (r .kap b l);
       shown = λ b l. table-names image names (epsBlock b) 5 b (r .eps b l) 60 (omega arith);
     }

@@ -29,9 +29,13 @@ decimal n = decimalIn 20 n
 unfoldable pub threeNumbers : ℕ → ℕ → ℕ → List ℕ
 threeNumbers a b c = decimal a ++ bytesOf " " ++ decimal b ++ bytesOf " " ++ decimal c ++ bytesOf "\n"
 
--- accepted; clause with its number, box and record; refused with the image, the number and both places
+-- one number more, before the three
+unfoldable pub fourNumbers : ℕ → ℕ → ℕ → ℕ → List ℕ
+fourNumbers a b c d = decimal a ++ bytesOf " " ++ threeNumbers b c d
+
+-- accepted; clause with its number, box, record and the name that is missing; refused with the image, the number and both places
 unfoldable pub verdictLine : Verdict → List ℕ
 verdictLine accepted = bytesOf "accepted\n"
-verdictLine (breaks b) = bytesOf "clause " ++ threeNumbers (b .clause) (b .box) (b .place)
+verdictLine (breaks b) = bytesOf "clause " ++ fourNumbers (b .clause) (b .box) (b .place) (b .name)
 verdictLine (refusedModel r) = bytesOf "refused model " ++ threeNumbers (r .number) (r .place) (r .second)
 verdictLine (refusedEstimate r) = bytesOf "refused estimate " ++ threeNumbers (r .number) (r .place) (r .second)

@@ -73,10 +73,10 @@ interOf b t k u = record { kind = 9; box = b; thread = t; box2 = k; thread2 = u 
 unfoldable pub starred : List Case
 starred =
     estimate E none
-    ∷ estimate (estimateK (2 ^ 4) (2 ^ 5) (2 ^ 1)) (some (broken 5 0 1))
-    ∷ estimate (estimateK (2 ^ 1) (2 ^ 5) (2 ^ 1)) (some (broken 6 0 1))
-    ∷ estimate (estimateK (2 ^ 4) (2 ^ 5) 0) (some (broken 4 0 3))
-    ∷ estimate (estimateK (2 ^ 1 + 2 ^ 4) 0 (2 ^ 1)) (some (broken 2 1 0))
+    ∷ estimate (estimateK (2 ^ 4) (2 ^ 5) (2 ^ 1)) (some (broken 5 0 1 1))
+    ∷ estimate (estimateK (2 ^ 1) (2 ^ 5) (2 ^ 1)) (some (broken 6 0 1 4))
+    ∷ estimate (estimateK (2 ^ 4) (2 ^ 5) 0) (some (broken 4 0 3 1))
+    ∷ estimate (estimateK (2 ^ 1 + 2 ^ 4) 0 (2 ^ 1)) (some (broken 2 1 0 5))
     ∷ moves (spreadOf 0 0 ∷ []) (0 ∷ []) (standing 0 (1 ∷ 3 ∷ []) ∷ [])
     ∷ moves (spreadOf 0 0 ∷ intraOf 0 0 1 ∷ []) (0 ∷ 0 ∷ []) (standing 0 (2 ∷ 4 ∷ []) ∷ bound 0 0 2 (freeHeld 1) ∷ [])
     ∷ moves (spreadOf 0 0 ∷ interOf 0 0 1 0 ∷ interOf 0 0 1 0 ∷ []) (0 ∷ 0 ∷ 14 ∷ []) (bound 0 0 2 (freeHeld 4) ∷ standing 1 (1 ∷ []) ∷ [])
@@ -96,7 +96,7 @@ unfoldable pub sameBroken : Option Broken → Option Broken → Bool
 sameBroken none none = true
 sameBroken none (some b) = false
 sameBroken (some a) none = false
-sameBroken (some a) (some b) = a .clause is b .clause and a .box is b .box and a .place is b .place
+sameBroken (some a) (some b) = a .clause is b .clause and a .box is b .box and a .place is b .place and a .name is b .name
 
 unfoldable pub isSeen : List ℕ → Seen → Bool
 isSeen st (standing b lines) = let r = recordOf st b in sameNumbers (tabulate (threads r) (λ t. line (thread r t))) lines

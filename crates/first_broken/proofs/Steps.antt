@@ -1,24 +1,24 @@
 -- Laws of the checker's steps: one site and one line after another, and one box after another. Assumes nothing.
-use mathlib.Core.Path.{_≡_, sym, ap, ap₂, subst, _∙_}
-use mathlib.Core.Bool.{Bool, true, not}
+use mathlib.Core.Path.{_≡_, sym, ap, subst, _∙_}
+use mathlib.Core.Bool.{Bool, true}
 use mathlib.Core.List.{List}
 use mathlib.Core.Option.{Option, none}
 use Prim.Native.Nat.{ℕ, _+_, _/_, _%_, _≤_, _<_}
 use native.Mathlib.Omega.{arith}
-use native.Mathlib.Decide.{ℕ-discrete}
 use borrow.Author.Needs.{needs}
-use lib.Dec.{T}
 use mir.Syntax.{w64}
 use mir.Val.{Fits}
 use lib.ListN.{length, getD}
-use Rattle.definitions.specs.Bounded.{_and_, _is_, _below_, someIf, orElse, firstBelow}
+use Rattle.definitions.specs.Bounded.{_and_, _is_, _below_, when, orElse, firstBelow}
 use Rattle.definitions.specs.Sets.{has}
 use Rattle.definitions.specs.Words.{blockOf, countOf}
 use Rattle.definitions.specs.Model as paper
 use Rattle.definitions.specs.Image.{siteRecord, lineRecord, nameCount, boxesOf, kindsOf, sitesBlock, linesOf, modelOf}
 use Rattle.definitions.specs.Estimate.{Estimate, estimateOf}
 use Rattle.definitions.specs.Clauses as cl
-use Rattle.definitions.proofs.Bounded.{is-iff, below-iff, true-of, of-true, false-of, each-none}
+use Rattle.definitions.proofs.Bounded.{is-iff, below-iff, true-of, of-true, each-none}
+use Rattle.definitions.proofs.Faults.{when-iff}
+use Rattle.definitions.proofs.Clauses.{at-iff}
 use Rattle.definitions.proofs.Image.{model-count, model-box, model-kinds, model-names, box-sites, box-lines}
 use Rattle.definitions.proofs.Loops.{passed-start, passed-turn, passed-end, else-go}
 use Rattle.records.specs.declared.Site.{Site}
@@ -27,7 +27,6 @@ use Rattle.layouts.specs.declared.Layout.{Layout}
 use Rattle.records.specs.Records.{siteIn, lineIn}
 use Rattle.layouts.specs.LayoutOf.{LayoutOf}
 use Rattle.records.specs.Places.{lineRecordAt}
-use Rattle.sharing.specs.declared.Gathered.{Gathered}
 use Rattle.sharing.proofs.Gather.{nothing-of}
 use Rattle.line_gather.specs.Gathered.{LinesOfNames}
 use Rattle.clause_walk.specs.Lines.{LinePasses, ShowsLines}
@@ -35,29 +34,26 @@ use Rattle.record_clauses.specs.declared.Broken.{Broken}
 use Rattle.record_clauses.specs.declared.Found.{Found}
 use Rattle.record_clauses.specs.declared.Found.the-variants.{Nothing, First}
 use Rattle.record_clauses.specs.Found.{foundIn}
-use Rattle.record_clauses.specs.Known.{NamesFound, Decides, LineFound}
-use Rattle.record_clauses.proofs.Steps.{nothing, first-else, first-of, unless-as}
+use Rattle.record_clauses.specs.Known.{NamesFound, LineFound}
+use Rattle.record_clauses.proofs.Steps.{nothing, first-else, first-of}
 use Rattle.first_broken.specs.Known.{Unrefused}
 use Rattle.first_broken.proofs.Facts.{box-8, count-60, count-fits, estimate-512, names-boxes, box-names, eps-there, site-there, site-at, site-31, site-62, line-at, line-there, line-names, lines-named}
 
 -- ---- clause 2
 
-pub site-is : (model estimate : List ℕ) (k b i : ℕ) (s : Site) (ok : Bool) (r : Option cl.Broken) → Unrefused model estimate → b < boxesOf model
-    → k ≡ sitesBlock model b → i < countOf (blockOf model k) → siteIn s ≡ siteRecord (blockOf model k) i → r ≡ someIf (not ok) (cl.broken 2 b i)
-    → ok ≡ cl.clause2 (estimateOf estimate) b (siteIn s) → r ≡ cl.siteBroken (modelOf model) (estimateOf estimate) b i
+pub site-is : (model estimate : List ℕ) (k b i : ℕ) (s : Site) (o : Option ℕ) (r : Option cl.Broken) → Unrefused model estimate → b < boxesOf model
+    → k ≡ sitesBlock model b → i < countOf (blockOf model k) → siteIn s ≡ siteRecord (blockOf model k) i → r ≡ cl.brokenAt 2 b i o
+    → o ≡ cl.clause2 (estimateOf estimate) b (siteIn s) → r ≡ cl.siteBroken (modelOf model) (estimateOf estimate) b i
 unfolding cl.siteBroken
-site-is model estimate k b i s ok r u inside at h es q f =
-    unless-as ok (cl.broken 2 b i) (cl.clause2 (estimateOf estimate) b (paper.siteAt (paper.boxAt (modelOf model) b) i)) r q
-    (f ∙ ap (cl.clause2 (estimateOf estimate) b) (es ∙ sym (site-at model estimate u b inside k at i h)))
+site-is model estimate k b i s o r u inside at h es q f =
+    q ∙ ap (cl.brokenAt 2 b i) (f ∙ ap (cl.clause2 (estimateOf estimate) b) (es ∙ sym (site-at model estimate u b inside k at i h)))
 
 -- a line of the model
-pub line-is : (model estimate : List ℕ) (boxes k b i : ℕ) (l : Line) (g : Gathered) (r : Option cl.Broken) → Unrefused model estimate → boxes ≡ boxesOf model
+pub line-is : (model estimate : List ℕ) (boxes k b i : ℕ) (l : Line) (r : Option cl.Broken) → Unrefused model estimate → boxes ≡ boxesOf model
     → b < boxes → k ≡ sitesBlock model b → i < linesOf model b → lineIn l ≡ lineRecord (blockOf model (k + 1 + i / 31)) (i % 31)
-    → Decides (estimateOf estimate) boxes b (lineIn l) g → LineFound (estimateOf estimate) g b i (lineIn l) r
-    → r ≡ cl.lineBroken (modelOf model) (estimateOf estimate) b i
-line-is model estimate boxes k b i l g r u eb inside at h el d q =
-    q .same (modelOf model) (line-at model estimate u b (rw eb at inside) k at i h ∙ sym el)
-    (subst (λ (x : ℕ). Decides (estimateOf estimate) x b (lineIn l) g) (eb ∙ sym (model-count model)) d)
+    → LineFound (estimateOf estimate) boxes b i (lineIn l) r → r ≡ cl.lineBroken (modelOf model) (estimateOf estimate) b i
+line-is model estimate boxes k b i l r u eb inside at h el q =
+    q .same (modelOf model) (line-at model estimate u b (rw eb at inside) k at i h ∙ sym el) (model-count model ∙ sym eb)
 
 -- the number of the next line
 pub next-fits : (model : List ℕ) (k n j : ℕ) → LinesOfNames model k n → j < n → Fits w64 (j + 1)
@@ -65,13 +61,8 @@ next-fits model k n j f h = omega (arith, f .there .few)
 
 -- ---- no line of a box breaks a clause
 
-asks-none : (l : paper.Line) (op : ℕ) (ok : Bool) (x : cl.Broken) → (l .op ≡ op → T ok) → cl.asks l op ok x ≡ none
-unfolding cl.asks _and_
-asks-none l op ok x f = pick (ℕ-discrete (l .op) op)
-  where
-    pick : Dec (l .op ≡ op) → someIf (l .op is op and not ok) x ≡ none
-    pick (yes z) = ap₂ (λ (u v : Bool). someIf (u and not v) x) (true-of (l .op is op) (is-iff (l .op) op .1 z)) (true-of ok (f z))
-    pick (no z) = ap (λ (u : Bool). someIf (u and not ok) x) (false-of (l .op is op) (λ u. z (is-iff (l .op) op .0 u)))
+asks-none : (op n c b i : ℕ) (o : Option ℕ) → (op ≡ n → o ≡ none) → when (op is n) (cl.brokenAt c b i o) ≡ none
+asks-none op n c b i o f = when-iff (op is n) (cl.brokenAt c b i o) .1 (λ t. at-iff c b i o .1 (f (is-iff op n .0 t)))
 
 passes-none : (m : paper.Model) (e : Estimate) (b i : ℕ) (l : paper.Line) → paper.lineAt (paper.boxAt m b) i ≡ l → LinePasses e (paper.boxCount m) b l
     → cl.lineBroken m e b i ≡ none
@@ -79,13 +70,13 @@ unfolding cl.lineBroken
 passes-none m e b i l at p =
     let x = paper.lineAt (paper.boxAt m b) i in
     let q : LinePasses e (paper.boxCount m) b x = subst (LinePasses e (paper.boxCount m) b) (sym at) p in
-    let a3 = asks-none x paper.restriction (cl.clause3 e x) (cl.broken 3 b i) (q .three) in
-    let a4 = asks-none x paper.output (cl.clause4 e b x) (cl.broken 4 b i) (q .four) in
-    let a5 = asks-none x paper.input (cl.clause5 e b x) (cl.broken 5 b i) (q .five) in
-    let a6 = asks-none x paper.input (cl.clause6 e (paper.boxCount m) b x) (cl.broken 6 b i) (q .six) in
-    let a7 = asks-none x paper.expose (cl.clause7 e b x) (cl.broken 7 b i) (q .seven) in
-    let a8 = asks-none x paper.hide (cl.clause8 e b x) (cl.broken 8 b i) (q .eight) in
-    let a9 = asks-none x paper.unhide (cl.clause9 e b x) (cl.broken 9 b i) (q .nine) in
+    let a3 = asks-none (x .op) paper.restriction 3 b i (cl.clause3 e x) (q .three) in
+    let a4 = asks-none (x .op) paper.output 4 b i (cl.clause4 e b x) (q .four) in
+    let a5 = asks-none (x .op) paper.input 5 b i (cl.clause5 e b x) (q .five) in
+    let a6 = asks-none (x .op) paper.input 6 b i (cl.clause6 e (paper.boxCount m) b x) (q .six) in
+    let a7 = asks-none (x .op) paper.expose 7 b i (cl.clause7 e b x) (q .seven) in
+    let a8 = asks-none (x .op) paper.hide 8 b i (cl.clause8 e b x) (q .eight) in
+    let a9 = asks-none (x .op) paper.unhide 9 b i (cl.clause9 e b x) (q .nine) in
     (λ j. orElse (a3 j) (orElse (a4 j) (orElse (a5 j) (orElse (a6 j) (orElse (a7 j) (orElse (a8 j) (a9 j)))))))
 
 pub shown-none : (model estimate : List ℕ) (boxes k b n : ℕ) (r : Bool) → Unrefused model estimate → boxes ≡ boxesOf model → b < boxes → k ≡ sitesBlock model b

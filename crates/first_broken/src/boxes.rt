@@ -21,7 +21,7 @@ fn site(model: &[u8], estimate: &[u8], k: usize, b: usize, i: usize) -> Found
     ensures { λ r. ⌜ foundIn r ≡ siteBroken (modelOf (now (model .entry))) (estimateOf (now (estimate .entry))) b i ⌝ }
 {
     let s = records::inside::site(model, k, i);
-    lines::unless(clauses::clause2(estimate, b, s), 2, b, i)
+    lines::broken_at(clauses::clause2(estimate, b, s), 2, b, i)
 }
 
 // The sites of box b.
@@ -59,7 +59,7 @@ fn each_line(
     while j < total {
         let l = records::inside::line(model, k, j);
         g = lines::gather(estimate, sends, types, boxes, b, l, g);
-        let f = lines::by_operation(estimate, g, b, j, l);
+        let f = lines::by_operation(estimate, boxes, g, b, j, l);
         if let Found::First(_) = f {
             return f;
         }

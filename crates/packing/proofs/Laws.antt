@@ -18,14 +18,14 @@ use Rattle.analysis.specs.declared.Verdict.the-variants.{Accepted, Breaks, Refu
 use Rattle.analysis.specs.declared.Reply.{Reply}
 use Rattle.analysis.specs.declared.Reply.the-variants.{NotAccepted, Nobody, Yes, No}
 use Rattle.analysis.specs.Answers.{verdictIn, replyIn}
-use Rattle.packing.specs.Packed.{pack, packVerdict, packReply, callTag, packCall, noPart, packBlock, packPart}
+use Rattle.packing.specs.Packed.{pack, packNamed, packVerdict, packReply, callTag, packCall, noPart, packBlock, packPart}
 
 -- a verdict
 pub of-accepted : (v : Verdict) → v ≡ Accepted → 0 ≡ packVerdict (verdictIn v)
 unfolding packVerdict
 of-accepted v q = ap (λ (x : Verdict). packVerdict (verdictIn x)) (sym q)
 
-pub of-broken : (v : Verdict) (x : Broken) (n : ℕ) → v ≡ Breaks x → n ≡ pack 1 (x .clause) (x .boxno) (x .place) → n ≡ packVerdict (verdictIn v)
+pub of-broken : (v : Verdict) (x : Broken) (n : ℕ) → v ≡ Breaks x → n ≡ packNamed 1 (x .clause) (x .boxno) (x .place) (x .name .0) → n ≡ packVerdict (verdictIn v)
 unfolding packVerdict
 of-broken v x n q p = p ∙ ap (λ (y : Verdict). packVerdict (verdictIn y)) (sym q)
 

@@ -11,10 +11,14 @@ use Rattle.definitions.specs.ShutOff.{Reply, notAccepted, nobody, isShutOff}
 abbrev pub pack : ℕ → ℕ → ℕ → ℕ → ℕ
 pack tag n a b = tag + 0x100 * n + 0x1_0000 * (a % 65536) + 0x1_0000_0000 * (b % 65536)
 
+-- a broken clause has the name that is missing besides, in the 8 bits after those
+abbrev pub packNamed : ℕ → ℕ → ℕ → ℕ → ℕ → ℕ
+packNamed tag n a b name = pack tag n a b + 0x1_0000_0000_0000 * name
+
 -- 0 accepted, 1 a broken clause, 2 the model refused, 3 the estimate refused
 unfoldable pub packVerdict : Verdict → ℕ
 packVerdict accepted = 0
-packVerdict (breaks b) = pack 1 (b .clause) (b .box) (b .place)
+packVerdict (breaks b) = packNamed 1 (b .clause) (b .box) (b .place) (b .name)
 packVerdict (refusedModel r) = pack 2 (r .number) (r .place) (r .second)
 packVerdict (refusedEstimate r) = pack 3 (r .number) (r .place) (r .second)
 

@@ -1,11 +1,12 @@
-// Answers as one number: a tag, a number and two places.
+// Answers as one number: a tag, a number and two places; a broken clause with the name that is missing.
 ghost use mathlib.Core.Path.{_≡_};
 ghost use Rattle.refusals.specs.Answers.{answerIn};
 ghost use Rattle.analysis.specs.Answers.{verdictIn, replyIn};
-ghost use Rattle.packing.specs.Packed.{pack, packVerdict, packReply, callTag, packCall, packPart};
+ghost use Rattle.packing.specs.Packed.{pack, packNamed, packVerdict, packReply, callTag, packCall, packPart};
 use analysis::Reply;
 use analysis::Verdict;
 use refusals::Answer;
+use sets::NameNo;
 
 pub fn packed(tag: u8, n: u8, a: usize, b: usize) -> u64
     ensures { λ r. ⌜ r ≡ pack tag n a b ⌝ }
@@ -16,12 +17,19 @@ pub fn packed(tag: u8, n: u8, a: usize, b: usize) -> u64
         + 0x1_0000_0000 * ((b % 65536) as u64)
 }
 
+// The name that is missing besides.
+fn packed_named(tag: u8, n: u8, a: usize, b: usize, name: NameNo) -> u64
+    ensures { λ r. ⌜ r ≡ packNamed tag n a b (name .0) ⌝ }
+{
+    packed(tag, n, a, b) + 0x1_0000_0000_0000 * (name.0 as u64)
+}
+
 pub fn of_verdict(v: Verdict) -> u64
     ensures { λ r. ⌜ r ≡ packVerdict (verdictIn v) ⌝ }
 {
     match v {
         Verdict::Accepted => 0,
-        Verdict::Breaks(x) => packed(1, x.clause, x.boxno, x.place),
+        Verdict::Breaks(x) => packed_named(1, x.clause, x.boxno, x.place, x.name),
         Verdict::RefusedModel(r) => packed(2, r.number, r.place, r.second),
         Verdict::RefusedEstimate(r) => packed(3, r.number, r.place, r.second),
     }

@@ -5,9 +5,9 @@ use Rattle.record_clauses.specs.declared.Broken.{Broken}
 use Rattle.record_clauses.specs.declared.Found.{Found}
 use Rattle.record_clauses.specs.declared.Found.the-variants.{Nothing, First}
 
--- a broken clause: its number, its box and its record
+-- a broken clause: its number, its box, its record and the name that is missing
 abbrev pub brokenIn : Broken → clauses.Broken
-brokenIn x = clauses.broken (x .clause) (x .boxno) (x .place)
+brokenIn x = clauses.broken (x .clause) (x .boxno) (x .place) (x .name .0)
 
 abbrev pub foundIn : Found → Option clauses.Broken
 foundIn Nothing = none

@@ -1,11 +1,11 @@
 // The clauses at one line.
 ghost use mathlib.Core.Path.{_≡_};
-ghost use mathlib.Core.Bool.{not};
 ghost use Prim.Native.Nat.{_<_};
-ghost use Rattle.definitions.specs.Bounded.{someIf, orElse};
+ghost use Rattle.definitions.specs.Bounded.{orElse};
 ghost use Rattle.definitions.specs.Estimate.{estimateOf};
-ghost use Rattle.definitions.specs.Clauses.{broken};
+ghost use Rattle.definitions.specs.Clauses.{brokenAt};
 ghost use Rattle.records.specs.Records.{lineIn};
+ghost use Rattle.subsets.specs.Within.{withinIn};
 ghost use Rattle.clauses.specs.Known.{BoxOfNames, EstimateOfNames, LineOfNames};
 ghost use Rattle.links.specs.Types.{TypeTable};
 ghost use Rattle.sharing.specs.Shared.{Sends, GatheredOf};
@@ -15,19 +15,20 @@ use crate::Broken;
 use crate::Found;
 use records::Line;
 use sharing::Gathered;
+use subsets::Within;
 
-// The clause is broken, unless its test passes.
-pub fn unless(ok: bool, clause: u8, b: usize, i: usize) -> Found
-    ensures { λ r. ⌜ foundIn r ≡ someIf (not ok) (broken clause b i) ⌝ }
+// The clause is broken where a name is missing.
+pub fn broken_at(w: Within, clause: u8, b: usize, i: usize) -> Found
+    ensures { λ r. ⌜ foundIn r ≡ brokenAt clause b i (withinIn w) ⌝ }
 {
-    if ok {
-        Found::Nothing
-    } else {
-        Found::First(Broken {
+    match w {
+        Within::Yes => Found::Nothing,
+        Within::Lacks(n) => Found::First(Broken {
             clause: clause,
             boxno: b,
             place: i,
-        })
+            name: n,
+        }),
     }
 }
 
@@ -67,22 +68,30 @@ pub fn gather(
 }
 
 // The clauses of line i of box b, by its operation; g: what 4, 5 and 6 ask there.
-pub fn by_operation(estimate: &[u8], g: Gathered, b: usize, i: usize, l: Line) -> Found
-    requires { ⌜ BoxOfNames (now estimate) b × LineOfNames (lineIn l) ⌝ }
-    ensures { λ r. ⌜ LineFound (estimateOf (now (estimate .entry))) g b i (lineIn l) (foundIn r) ⌝ }
+pub fn by_operation(
+    estimate: &[u8],
+    boxes: usize,
+    g: Gathered,
+    b: usize,
+    i: usize,
+    l: Line,
+) -> Found
+    requires tables { ⌜ EstimateOfNames (now estimate) boxes × BoxOfNames (now estimate) b × (b < boxes) ⌝ }
+    requires line { ⌜ LineOfNames (lineIn l) × Decides (estimateOf (now estimate)) boxes b (lineIn l) g ⌝ }
+    ensures { λ r. ⌜ LineFound (estimateOf (now (estimate .entry))) boxes b i (lineIn l) (foundIn r) ⌝ }
 {
     let op = l.op;
     match op {
-        3 => unless(clauses::clause3(estimate, l), 3, b, i),
-        4 => unless(clauses::sends_within(estimate, g.most, l), 4, b, i),
+        3 => broken_at(clauses::clause3(estimate, l), 3, b, i),
+        4 => broken_at(shortages::clause4(estimate, g.most, b, l), 4, b, i),
         5 => {
-            let five = unless(clauses::takes(estimate, g.all, l), 5, b, i);
-            let six = unless(clauses::takes(estimate, g.asks, l), 6, b, i);
+            let five = broken_at(shortages::clause5(estimate, g.all, b, l), 5, b, i);
+            let six = broken_at(shortages::clause6(estimate, g.asks, boxes, b, l), 6, b, i);
             earlier(five, six)
         }
-        6 => unless(clauses::clause7(estimate, b, l), 7, b, i),
-        7 => unless(clauses::clause8(estimate, b, l), 8, b, i),
-        8 => unless(clauses::clause9(estimate, b, l), 9, b, i),
+        6 => broken_at(clauses::clause7(estimate, b, l), 7, b, i),
+        7 => broken_at(clauses::clause8(estimate, b, l), 8, b, i),
+        8 => broken_at(clauses::clause9(estimate, b, l), 9, b, i),
         _ => Found::Nothing,
     }
 }

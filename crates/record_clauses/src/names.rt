@@ -13,8 +13,8 @@ fn name(estimate: &[u8], free: u64, n: NameNo) -> Found
     requires { ⌜ (512 ≤ length (now estimate)) × (n .0 < 62) ⌝ }
     ensures { λ r. ⌜ NameFound (estimateOf (now (estimate .entry))) free (n .0) (foundIn r) ⌝ }
 {
-    let ok = clauses::clause1(estimate, sets::contains(free, n), n);
-    lines::unless(ok, 1, 0, n.0 as usize)
+    let w = clauses::clause1(estimate, sets::contains(free, n), n);
+    lines::broken_at(w, 1, 0, n.0 as usize)
 }
 
 // The names below count.

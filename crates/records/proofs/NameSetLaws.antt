@@ -8,7 +8,7 @@ use Rattle.definitions.specs.Bounded.{_and_, _or_, _is_, _upto_}
 use Rattle.definitions.specs.Sets.{has, within, size}
 use Rattle.definitions.specs.Model.{Line, binds}
 use Rattle.definitions.specs.ReadModel.{typeFits, uses}
-use Rattle.definitions.proofs.Sets.{has-none, has-not, or-false}
+use Rattle.definitions.proofs.Sets.{has-none, has-not, or-false, within-each}
 use Rattle.records.specs.NameSets.{SetOf, insertIf, setIf, lacks}
 
 -- ---- sets by a test
@@ -70,9 +70,9 @@ uses-is l a b w r p q channel ep eq e f g h k = record {
 
 pub type-is : (ok subject names n : ℕ) (w h a b r : Bool) → n ≡ size names → w ≡ within names ok → h ≡ has names subject
     → a ≡ (leb 1 n and leb n 8) → b ≡ (a and w) → r ≡ (b and not h) → r ≡ typeFits (has ok) subject names
-unfolding typeFits within _upto_
+unfolding typeFits _upto_
 type-is ok subject names n w h a b r en ew eh ea eb er =
     er
-    ∙ ap₂ (λ (s t : Bool). s and not t) (eb ∙ ap₂ _and_ (ea ∙ ap (λ (x : ℕ). leb 1 x and leb x 8) en) ew) eh
+    ∙ ap₂ (λ (s t : Bool). s and not t) (eb ∙ ap₂ _and_ (ea ∙ ap (λ (x : ℕ). leb 1 x and leb x 8) en) (ew ∙ within-each names ok)) eh
 
 pub ruleset sets-of-names = (needs, insert-yes, insert-no, set-yes, set-no, complement-is, binds-is, uses-is, type-is)

@@ -3,6 +3,7 @@ use mathlib.Core.Path.{_≡_, refl, sym, ap, _∙_}
 use mathlib.Core.Bool.{Bool, true, false}
 use mathlib.Core.List.{List}
 use mathlib.Core.Logic.{inl, inr, ⊎-elim}
+use mathlib.Core.Option.{none}
 use Prim.Native.Nat.{ℕ, _+_, _^_, _≤_, _<_, zero-le}
 use native.Mathlib.Nat.{le-antisymm}
 use native.Mathlib.Numerals.{add-one}
@@ -18,10 +19,11 @@ use Rattle.definitions.specs.Clauses.{clause4, clause5, clause6}
 use Rattle.definitions.proofs.Bounded.{and-iff, or-iff, all-iff, implies-iff, isnt-iff, true-of, of-true, false-of, not-false, same-test}
 use Rattle.definitions.proofs.Sets.{and-true, and-assoc, has-none, forEach-iff, forSome-iff, within-iff, within-trans, meets-iff, meets-comm}
 use Rattle.definitions.proofs.Loops.{fails, holds}
+use Rattle.definitions.proofs.Clauses.{sets, clause4-iff, clause5-iff, clause6-iff}
 use Rattle.sets.specs.Lowest.{lowestOf, WithoutLowest}
 use Rattle.sets.specs.Names.{NamesOnly}
 use Rattle.sets.proofs.Walk.{Left, left-start, left-turn, walk-less, split-each, none-each}
-use Rattle.clauses.proofs.Members.{UnionOf, left-62, left-64, names-shown}
+use Rattle.clauses.proofs.Members.{UnionOf, left-62, left-64, names-shown, names-both}
 use Rattle.clauses.proofs.Rows.{Rows, rows-start, rows-turn, rows-end, rows-size}
 use Rattle.links.specs.Types.{Types, TypeTable}
 use Rattle.sharing.specs.declared.Gathered.{Gathered}
@@ -285,9 +287,6 @@ module _ (e : Estimate) (boxes b s d x q : ℕ) (both : (m : ℕ) → has d m �
   by-types : sharedByOthers e boxes b x q ≡ sharedOn e boxes b s q
   by-types = same-test (sharedByOthers e boxes b x q) (sharedOn e boxes b s q) to-each from-each
 
-pub names-both : (e : Estimate) (b s d y : ℕ) → NamesOnly s → y ≡ e .shown b → ((m : ℕ) → has d m ≡ (has s m and has y m)) → NamesOnly d
-names-both e b s d y f ey both = record { below = λ n l t. f .below n l (and-iff (has s n) (has y n) .0 (of-true (sym (both n) ∙ true-of (has d n) t)) .0) }
-
 pub asks-as : (e : Estimate) (boxes b s d y x z : ℕ) (g : Gathered) → ((m : ℕ) → has d m ≡ (has s m and has y m)) → y ≡ e .shown b → Types e b d x → z ≡ x
     → GatheredOf e boxes b g → g .types ≡ z → Least (g .asks) (sharedOn e boxes b s)
 asks-as e boxes b s d y x z g both ey types ex h ez = record {
@@ -342,17 +341,17 @@ module _ (e : Estimate) (b s : ℕ) where
 
 -- ---- clauses 4, 5 and 6, by what is asked of a channel
 
-pub four-is : (e : Estimate) (b : ℕ) (l : Line) → maySend e b (e .rho (l .name1)) (e .rho (l .name2)) ≡ clause4 e b l
-unfolding maySend clause4
-four-is e b l = refl
+pub four-met : (e : Estimate) (b : ℕ) (l : Line) → T (maySend e b (e .rho (l .name1)) (e .rho (l .name2))) → clause4 e b l ≡ none
+unfolding maySend
+four-met e b l t = clause4-iff e b l .1 (simp sets at t)
 
-pub five-is : (e : Estimate) (b : ℕ) (l : Line) → allSentIn e b (e .rho (l .name1)) (e .rho (l .name2)) ≡ clause5 e b l
-unfolding allSentIn sentIn clause5
-five-is e b l = refl
+pub five-met : (e : Estimate) (b : ℕ) (l : Line) → T (allSentIn e b (e .rho (l .name1)) (e .rho (l .name2))) → clause5 e b l ≡ none
+unfolding allSentIn sentIn
+five-met e b l t = clause5-iff e b l .1 (simp sets at t)
 
-pub six-is : (e : Estimate) (boxes b : ℕ) (l : Line) → sharedOn e boxes b (e .rho (l .name1)) (e .rho (l .name2)) ≡ clause6 e boxes b l
-unfolding sharedOn sharedAt sharedByOthers sharedByOther allSharedIn sharedIn sentIn clause6
-six-is e boxes b l = refl
+pub six-met : (e : Estimate) (boxes b : ℕ) (l : Line) → T (sharedOn e boxes b (e .rho (l .name1)) (e .rho (l .name2))) → clause6 e boxes b l ≡ none
+unfolding sharedOn sharedAt sharedByOthers sharedByOther allSharedIn sharedIn sentIn
+six-met e boxes b l t = clause6-iff e b l boxes .1 (simp sets at t)
 
 -- ---- what is gathered
 

@@ -6,36 +6,26 @@ use bm::model::Model;
 use bm::state::{self, STATE_WORDS};
 use bm::step;
 use bm::text::{NameList, assemble, disassemble};
-use bm::{Cause, Estimate, Refusal, ShutOff, Verdict, calls, least, listing};
+use bm::{Cause, Estimate, Refusal, Verdict, calls, least, listing};
 
 use crate::args::Given;
 use crate::failure::{Answer, Failure};
 use crate::files;
-use crate::table::{FROM, MISSING, STATE};
+use crate::table::{FROM, STATE};
 
 fn line(text: impl std::fmt::Display) -> Answer {
     Ok(format!("{text}\n"))
 }
 
-fn verdict_line(verdict: Verdict, given: &Given) -> Answer {
-    match verdict {
-        Verdict::Broken(broken) if given.has(&MISSING) => line(broken.with_missing()),
-        verdict => line(verdict),
-    }
-}
-
 pub fn check(given: &Given) -> Answer {
     let (model, estimate) = given.images()?;
-    verdict_line(calls::check(&model, &estimate), given)
+    line(calls::check(&model, &estimate))
 }
 
 pub fn shut_off(given: &Given) -> Answer {
     let box_no = given.number(2, u32::MAX.into())?;
     let (model, estimate) = given.images()?;
-    match calls::shut_off(&model, &estimate, box_no as usize) {
-        ShutOff::Not(verdict) => verdict_line(verdict, given),
-        answer => line(answer),
-    }
+    line(calls::shut_off(&model, &estimate, box_no as usize))
 }
 
 pub fn refused_block(given: &Given) -> Answer {

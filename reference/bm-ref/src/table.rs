@@ -48,8 +48,6 @@ const ESTIMATE: Arg = arg("ESTIMATE", "reads an estimate's image");
 const MOVES: Arg =
     arg("MOVES", "reads moves: five numbers a line, blank lines and comments from '#'");
 
-pub const MISSING: Opt =
-    flag("--missing", "a clause's line has the missing name as a fourth number");
 pub const MISSING_AS_EMPTY: Opt =
     flag("--missing-as-empty", "an image's file that does not exist counts as empty");
 pub const FROM: Opt = file("--from", "reads the words to begin with, instead of a start");
@@ -78,7 +76,7 @@ const COMMANDS: &[Command] = &[
         name: "check",
         wants: &[MODEL, ESTIMATE],
         may: &[],
-        options: &[MISSING, MISSING_AS_EMPTY],
+        options: &[MISSING_AS_EMPTY],
         about: "prints the checking program's line: accepted, the broken clause, or the refusal",
         example: "check model.blk estimate.blk",
         run: commands::check,
@@ -87,7 +85,7 @@ const COMMANDS: &[Command] = &[
         name: "shut-off",
         wants: &[MODEL, ESTIMATE, arg("BOX", "the number of the box, from 0")],
         may: &[],
-        options: &[MISSING, MISSING_AS_EMPTY],
+        options: &[MISSING_AS_EMPTY],
         about: "prints yes or no, the clause's or the refusal's line, or 'refused 12 0 0'",
         example: "shut-off model.blk estimate.blk 0",
         run: commands::shut_off,

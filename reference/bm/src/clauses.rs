@@ -15,21 +15,14 @@ pub struct Broken {
     pub box_no: usize,
     /// The name, site or line.
     pub record: usize,
-    /// The lowest name that is missing.
+    /// The lowest name that is missing, in the first set that is short.
     pub missing: NameNo,
 }
 
-impl Broken {
-    /// The line with the missing name as a fourth number.
-    pub fn with_missing(self) -> String {
-        format!("{self} {}", self.missing)
-    }
-}
-
-/// Prints as `clause 5 0 1`.
+/// Prints as `clause 5 0 1 1`.
 impl fmt::Display for Broken {
     fn fmt(&self, f: &mut fmt::Formatter<'_>) -> fmt::Result {
-        write!(f, "clause {} {} {}", self.clause, self.box_no, self.record)
+        write!(f, "clause {} {} {} {}", self.clause, self.box_no, self.record, self.missing)
     }
 }
 

@@ -15,12 +15,15 @@ pub struct Broken {
     pub box_no: u32,
     /// The name (clause 1), the site (clause 2) or the line.
     pub record: u32,
+    /// The name that is missing: the lowest that the first set short lacks.
+    pub missing: u32,
 }
 
-/// Prints the checking program's line: `clause 5 0 1`.
+/// Prints the checking program's line: `clause 5 0 1 1`.
 impl fmt::Display for Broken {
     fn fmt(&self, f: &mut fmt::Formatter<'_>) -> fmt::Result {
-        write!(f, "clause {} {} {}", self.clause, self.box_no, self.record)
+        let Broken { clause, box_no, record, missing } = self;
+        write!(f, "clause {clause} {box_no} {record} {missing}")
     }
 }
 
@@ -147,7 +150,8 @@ fn refused(image: Image, answer: u64) -> Verdict {
 
 fn broken(answer: u64) -> Verdict {
     let [box_no, record] = [packed::first(answer), packed::second(answer)].map(u32::from);
-    Verdict::Broken(Broken { clause: packed::number(answer), box_no, record })
+    let missing = packed::name(answer).into();
+    Verdict::Broken(Broken { clause: packed::number(answer), box_no, record, missing })
 }
 
 /// The checker's verdict.
@@ -203,6 +207,8 @@ mod tests {
             verdict("", answer),
             Verdict::Refused(RefusedImage { image: Image::Estimate, refusal })
         );
+        let broken = Broken { clause: 5, box_no: 0x304, record: 0x102, missing: 0x3b };
+        assert_eq!(verdict("", 0x003b_0102_0304_0501), Verdict::Broken(broken));
     }
 
     #[test]

@@ -13,7 +13,7 @@
 //!
 //! // The estimate is accepted; without z in rho(y) it breaks clause 5.
 //! assert_eq!(brothmaple::check(MODEL, ESTIMATE), Verdict::Accepted);
-//! assert_eq!(brothmaple::check(MODEL, BROKEN).to_string(), "clause 5 0 1");
+//! assert_eq!(brothmaple::check(MODEL, BROKEN).to_string(), "clause 5 0 1 1");
 //! // Boxes 0 and 1 share a type name.
 //! assert_eq!(brothmaple::shut_off(MODEL, ESTIMATE, 0), ShutOff::No);
 //!
@@ -92,7 +92,7 @@ pub fn read_estimate(model: &[u8], estimate: &[u8]) -> Result<(), RefusedImage> 
 /// use brothmaple::{Broken, Verdict};
 ///
 /// assert_eq!(brothmaple::check(MODEL, ESTIMATE), Verdict::Accepted);
-/// let broken = Broken { clause: 5, box_no: 0, record: 1 };
+/// let broken = Broken { clause: 5, box_no: 0, record: 1, missing: 1 };
 /// assert_eq!(brothmaple::check(MODEL, BROKEN), Verdict::Broken(broken));
 /// assert_eq!(brothmaple::check(b"", ESTIMATE).to_string(), "refused model 1 0 0");
 /// ```

@@ -2,8 +2,9 @@
 //!
 //! An answer is 64 bits: the tag in bits 0 to 7, the number of a clause or a
 //! refusal in bits 8 to 15, the first place in bits 16 to 31, the second in
-//! bits 32 to 47, and zeros. [`tag`], [`number`], [`first`] and [`second`]
-//! take it apart. The calls of the crate's root answer the same with types.
+//! bits 32 to 47, the name that a broken clause misses in bits 48 to 55, and
+//! zeros. [`tag`], [`number`], [`first`], [`second`] and [`name`] take it
+//! apart. The calls of the crate's root answer the same with types.
 //!
 //! This is the one module with unsafe code. Nothing checks its declarations
 //! against the proved source; the header `include/brothmaple.h` declares the
@@ -88,7 +89,8 @@ pub enum Tag {
     /// Nothing is refused, nothing is broken; of [`copy_refused_block`], bytes
     /// are copied, or there are none to copy.
     None = 0,
-    /// The estimate breaks a clause: its number, box and record.
+    /// The estimate breaks a clause: its number, box, record and the name that
+    /// is missing.
     Clause = 1,
     /// The model is refused; of [`refused_block`], a part of the model.
     Model = 2,
@@ -137,6 +139,11 @@ pub const fn first(answer: u64) -> u16 {
 /// The second place.
 pub const fn second(answer: u64) -> u16 {
     (answer >> 32) as u16
+}
+
+/// The name that is missing, of a broken clause; 0 of any other answer.
+pub const fn name(answer: u64) -> u8 {
+    (answer >> 48) as u8
 }
 
 // Why each call below is sound: a slice is a pointer that is not null, is

@@ -6,12 +6,12 @@ use bm::cases::rng::Rng;
 use bm::cases::walk;
 use bm::cases::{self, Case};
 use bm::state::STATE_WORDS;
-use bm::{Model, Move, ShutOff, Verdict, calls};
+use bm::{Broken, Estimate, Model, Move, ShutOff, Verdict, calls};
 
 use crate::damage::DamagedPair;
 use crate::lent::Lent;
 use crate::report::{Part, Report};
-use crate::{packing, proved};
+use crate::{names, packing, proved};
 
 const GENERATED: Part = Part { name: "generated", number: 2 };
 const DAMAGED: Part = Part { name: "damaged", number: 3 };
@@ -47,6 +47,15 @@ fn compare_pair(report: &mut Report, model: &[u8], estimate: &[u8], h: u32) -> (
     call("check", proved::check(model, estimate), packing::verdict(checked));
     call("shut off", proved::shut_off(model, estimate, h), packing::question(asked));
     (checked, asked)
+}
+
+/// Holds the missing name to the sets that its clause asks for, and notes where another order would give another.
+fn note_name(report: &mut Report, model: &[u8], estimate: &[u8], broken: Broken) {
+    let model = Model::read(model).expect("a model that was checked");
+    let estimate = Estimate::read(&model, estimate).expect("an estimate that was checked");
+    let (name, standings) = names::standing(&model, &estimate, broken);
+    assert_eq!(name, Some(broken.missing), "the Rust implementation's own name");
+    standings.into_iter().for_each(|at| report.tally.verdicts.names.add(at));
 }
 
 /// The state with which a case begins: its own words, or what a start writes.
@@ -119,6 +128,9 @@ fn compare_damaged(report: &mut Report) {
         let pair = DamagedPair::damaged(rng, &pooled.case.model, &pooled.case.estimate);
         let (checked, asked) = compare_pair(report, &pair.model, &pair.estimate, h);
         report.tally.verdicts.note(checked, asked);
+        if let Verdict::Broken(broken) = checked {
+            note_name(report, &pair.model, &pair.estimate, broken);
+        }
         let mut lent = Lent::new(pooled.words.clone());
         let _ = lent.step(&pair.model, mv, report);
         let _ = lent.run(&pair.model, &[mv, mv], 2, report);

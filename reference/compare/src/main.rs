@@ -11,6 +11,7 @@ mod images;
 mod lent;
 mod made_alone;
 mod move_speed;
+mod names;
 mod options;
 mod packing;
 mod proved;

@@ -29,8 +29,8 @@ pub fn read<T>(answer: Result<T, Refusal>) -> u64 {
 pub fn verdict(verdict: Verdict) -> u64 {
     match verdict {
         Verdict::Accepted => DONE,
-        Verdict::Broken(Broken { clause, box_no, record, .. }) => {
-            packed(BROKEN, clause, box_no as u64, record as u64)
+        Verdict::Broken(Broken { clause, box_no, record, missing }) => {
+            packed(BROKEN, clause, box_no as u64, record as u64) + (u64::from(missing.0) << 48)
         }
         Verdict::RefusedModel(why) => refusal(REFUSED_MODEL, why),
         Verdict::RefusedEstimate(why) => refusal(REFUSED_ESTIMATE, why),

@@ -7,6 +7,7 @@ use bm::names::{Held, MAX_STAMP, NameNo};
 use bm::step::move_kind;
 use bm::{Cause, Move, Refusal, ShutOff, Verdict};
 
+use crate::names::STANDINGS;
 use crate::runs::LENDINGS;
 
 /// Each kind is to come so often at least.
@@ -69,6 +70,8 @@ pub struct Verdicts {
     of_model: Counts,
     of_estimate: Counts,
     question: Counts,
+    /// Broken clauses where another order than the document's would give another name.
+    pub names: Counts,
 }
 
 impl Verdicts {
@@ -79,6 +82,7 @@ impl Verdicts {
             of_model: Counts::numbered("model refused", 1..=9),
             of_estimate: Counts::numbered("estimate refused", 1..=5),
             question: Counts::named("shut off", ["yes", "no", "no such box"]),
+            names: Counts::named("missing name, and", STANDINGS),
         }
     }
 
@@ -232,7 +236,8 @@ impl Tally {
             &self.calls;
         let Runs { answered, passed_over, made: made_in_runs, lent } = &self.runs;
         let mut counts = self.verdicts.verdicts().to_vec();
-        counts.extend([&self.verdicts.question, starts, steps, made, inter, stamps, largest]);
+        counts.extend([&self.verdicts.names, &self.verdicts.question]);
+        counts.extend([starts, steps, made, inter, stamps, largest]);
         counts.extend([spoilt, odd, changed]);
         counts.extend([answered, passed_over, made_in_runs, lent]);
         counts
@@ -267,11 +272,12 @@ mod tests {
     /// A tally in which each kind came often enough, and no verdict too often.
     fn sound() -> Tally {
         let mut tally = Tally::new();
-        let Verdicts { accepted, clauses, of_model, of_estimate, question } = &mut tally.verdicts;
+        let Verdicts { accepted, clauses, of_model, of_estimate, question, names } =
+            &mut tally.verdicts;
         let Calls { starts, steps, made, inter, stamps, largest, spoilt, odd, changed } =
             &mut tally.calls;
-        let others = [clauses, of_model, of_estimate, question, starts, steps, made, inter];
-        let more = [stamps, largest, spoilt, odd, changed];
+        let others = [clauses, of_model, of_estimate, question, names, starts, steps, made];
+        let more = [inter, stamps, largest, spoilt, odd, changed];
         others.into_iter().chain(more).for_each(|counts| fill(counts, FEWEST));
         fill(accepted, 5 * FEWEST);
         fill_runs(&mut tally.runs, FEWEST);

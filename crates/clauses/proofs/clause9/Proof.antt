@@ -1,21 +1,21 @@
 -- `clauses::clause9` meets its contract: one test. Assumes nothing.
 use Rattle.definitions.specs.Clauses.{clause9}
-use Rattle.clauses.proofs.Members.{walks}
+use Rattle.clauses.proofs.Members.{shorts}
 use Rattle.clauses.proofs.clause9.Statement.{statement}
 use Rattle.clauses.proofs.clause9.Tie as tie
 
 rho-requires : tie.Need-rho-requires
-rho-requires c κs = search walks
+rho-requires c κs = search shorts
 
 shown-requires : tie.Need-shown-requires
-shown-requires c κs = search walks
+shown-requires c κs = search shorts
 
-is-subset-requires : tie.Need-is-subset-requires
-is-subset-requires c κs = search walks
+missing-requires : tie.Need-missing-requires
+missing-requires c κs = search shorts
 
 returns : tie.Need-returns
 unfolding clause9
-returns c = search walks
+returns c = search shorts
 
 pub clause9-spec : {M : Type 1} → statement M
-clause9-spec = tie.close (tie.spec rho-requires shown-requires is-subset-requires returns)
+clause9-spec = tie.close (tie.spec rho-requires shown-requires missing-requires returns)

@@ -1,56 +1,23 @@
--- `clauses::types_within` meets its contract: the members left give the answer. Assumes nothing.
-use Rattle.definitions.specs.Sets.{within}
+-- `clauses::types_within` meets its contract: the answer as a test. Assumes nothing.
 use Rattle.definitions.specs.Estimate.{estimateOf}
-use Rattle.sets.proofs.Walk.{EachLeft}
-use Rattle.clauses.proofs.Members.{walks}
+use Rattle.clauses.proofs.Tests.{clauses, types-yes, types-no}
 use Rattle.clauses.proofs.types_within.Statement.{statement}
 use Rattle.clauses.proofs.types_within.Tie as tie
 
-abbrev Inv-loop : tie.InvT-loop
-Inv-loop estimate s x left₀ left = EachLeft (λ g. within (estimateOf estimate .rho g) x) s left
+types-missing-requires : tie.Need-types-missing-requires
+types-missing-requires c κs = search clauses
 
-abbrev μ-loop : tie.MeasureT-loop
-μ-loop estimate s x left₀ left = left
+enum-told : tie.Need-enum-told
+enum-told c = search clauses
 
-loop-holds : tie.Need-loop-holds Inv-loop μ-loop
-loop-holds c = search walks
+enum-told-2 : tie.Need-enum-told-2
+enum-told-2 c = search clauses
 
-lowest-requires : tie.Need-lowest-requires Inv-loop μ-loop
-lowest-requires c κs = search walks
+returns : tie.Need-returns
+returns c = types-yes (estimateOf _) _ _ _ (c .before .before .types-missing .ensures) (c .enum-told .given .1)
 
-rho-requires : tie.Need-rho-requires Inv-loop μ-loop
-rho-requires c κs = search walks
-
-is-subset-requires : tie.Need-is-subset-requires Inv-loop μ-loop
-is-subset-requires c κs = search walks
-
-returns : tie.Need-returns Inv-loop μ-loop
-returns c = search walks
-
-without-lowest-requires : tie.Need-without-lowest-requires Inv-loop μ-loop
-without-lowest-requires c κs = search walks
-
-loop-less : tie.Need-loop-less Inv-loop μ-loop
-loop-less c = search walks
-
-loop-again : tie.Need-loop-again Inv-loop μ-loop
-loop-again c = search walks
-
-returns-2 : tie.Need-returns-2 Inv-loop μ-loop
-returns-2 c = search walks
+returns-2 : tie.Need-returns-2
+returns-2 c = types-no (estimateOf _) _ _ _ _ (c .before .before .types-missing .ensures) (c .enum-told2 .given .1)
 
 pub types-within-spec : {M : Type 1} → statement M
-types-within-spec =
-    tie.close
-    (tie.spec
-    Inv-loop
-    μ-loop
-    loop-holds
-    lowest-requires
-    rho-requires
-    is-subset-requires
-    returns
-    without-lowest-requires
-    loop-less
-    loop-again
-    returns-2)
+types-within-spec = tie.close (tie.spec types-missing-requires enum-told enum-told-2 returns returns-2)

@@ -90,12 +90,11 @@ fn help_lists_the_commands_and_the_statuses() {
 fn help_of_a_command() {
     let folder = fresh_folder("command-help");
     let expected = "\
-bm-ref check MODEL ESTIMATE [--missing] [--missing-as-empty]
+bm-ref check MODEL ESTIMATE [--missing-as-empty]
     prints the checking program's line: accepted, the broken clause, or the refusal
 
     MODEL               reads a model's image
     ESTIMATE            reads an estimate's image
-    --missing           a clause's line has the missing name as a fourth number
     --missing-as-empty  an image's file that does not exist counts as empty
 
 Example:

@@ -45,10 +45,8 @@ fn missing_name_is_the_fourth_number() {
     );
     fs::write(folder.join("k.txt"), text).unwrap();
     printed(&folder, &["asm", "k.txt", "m", "e"]);
-    assert_eq!(printed(&folder, &["check", "m", "e"]), "clause 5 0 1\n");
-    assert_eq!(printed(&folder, &["check", "m", "e", "--missing"]), "clause 5 0 1 1\n");
-    assert_eq!(printed(&folder, &["shut-off", "m", "e", "9"]), "clause 5 0 1\n");
-    assert_eq!(printed(&folder, &["shut-off", "m", "e", "9", "--missing"]), "clause 5 0 1 1\n");
+    assert_eq!(printed(&folder, &["check", "m", "e"]), "clause 5 0 1 1\n");
+    assert_eq!(printed(&folder, &["shut-off", "m", "e", "9"]), "clause 5 0 1 1\n");
 }
 
 #[test]

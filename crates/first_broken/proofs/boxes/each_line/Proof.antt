@@ -58,8 +58,8 @@ loop-again c =
     let turn = read .before in
     let pre = turn .before .before .before .before .before .pre in (
       passed-turn _ _ _ (turn .before .loop .inv .0) (turn .loop-test .taken)
-          (nothing (tested .by-operation .result) _ (line-is _ _ _ _ _ _ (read .line .result) _ _ (pre .0) (pre .3) (pre .4) (pre .5) (inside-of _ _ _ (pre .6) (turn .loop-test .taken)) (read .line .ensures)
-          (gathered .gather .ensures .1) (tested .by-operation .ensures)) (search lines-9)),
+          (nothing (tested .by-operation .result) _ (line-is _ _ _ _ _ _ (read .line .result) _ (pre .0) (pre .3) (pre .4) (pre .5) (inside-of _ _ _ (pre .6) (turn .loop-test .taken)) (read .line .ensures)
+          (tested .by-operation .ensures)) (search lines-9)),
       gathered .gather .ensures .0,
     )
 

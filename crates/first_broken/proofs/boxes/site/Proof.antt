@@ -9,11 +9,11 @@ site-requires c κs = search sites-2
 clause2-requires : tie.Need-clause2-requires
 clause2-requires c κs = search sites-2
 
-unless-requires : tie.Need-unless-requires
-unless-requires c κs = search sites-2
+broken-at-requires : tie.Need-broken-at-requires
+broken-at-requires c κs = search sites-2
 
 returns : tie.Need-returns
 returns c = search sites-2
 
 pub site-spec : {M : Type 1} → statement M
-site-spec = tie.close (tie.spec site-requires clause2-requires unless-requires returns)
+site-spec = tie.close (tie.spec site-requires clause2-requires broken-at-requires returns)
