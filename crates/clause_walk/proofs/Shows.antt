@@ -28,7 +28,7 @@ use Rattle.records.specs.Places.{lineRecordAt}
 use Rattle.sets.specs.Names.{NamesOnly}
 use Rattle.sets.proofs.Walk.{walk-less, each-start, each-turn, each-stop, each-end}
 use Rattle.clauses.specs.Known.{BoxOfNames, EstimateOfNames, LineOfNames}
-use Rattle.clauses.proofs.Members.{left-62, left-64, has-as, names-rho, rho-names, box-62, names-62, second-62, box-there, boxed}
+use Rattle.clauses.proofs.Members.{left-62, left-64, names-rho, rho-names, box-62, names-62, second-62, box-there, boxed}
 use Rattle.sharing.specs.declared.Gathered.{Gathered}
 use Rattle.sharing.specs.Shared.{Least, allSentIn, sentByOthers, sharedOn, maySend, GatheredOf}
 use Rattle.sharing.proofs.Gather.{others-on, nothing-of, five-met, six-met}
@@ -242,8 +242,6 @@ module _ (model estimate : List ℕ) (k n c : ℕ) (ops sent listed : List ℕ) 
     lines-yes on named outs r names tn eo eouts to list = record {
       shows = λ t i h. one-line (names .shows (of-true tn)) on eo (of-true (sym eouts ∙ to)) (list .shows t) i h;
     }
-
-pub ruleset owns = (needs, fails, holds, walk-less, left-62, left-64, each-start, each-turn, each-stop, each-end, has-as)
 
 pub ruleset named = (needs, fails, holds, ops-62, names-no, names-yes)
 

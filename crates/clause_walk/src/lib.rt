@@ -17,22 +17,6 @@ use records::inside::line;
 use sets::NameNo;
 use sharing::Gathered;
 
-// n in rho(n) for each n in s.
-fn each_own(estimate: &[u8], s: u64) -> bool
-    requires { ⌜ (512 ≤ length (now estimate)) × NamesOnly s ⌝ }
-    ensures { λ r. ⌜ r ≡ names.forEach s (λ n. names.has (estimateOf (now (estimate .entry)) .rho n) n) ⌝ }
-{
-    let mut left = s;
-    while left != 0 {
-        let n = sets::lowest(left);
-        if !sets::contains(estimate::rho(estimate, n), n) {
-            return false;
-        }
-        left = sets::without_lowest(left);
-    }
-    true
-}
-
 // The first names of lines of an operation.
 fn of_operation(ops: &[u64; 16], o: usize) -> u64
     requires { ⌜ (length (now ops) ≡ 16) × (o < 16) ⌝ }
@@ -48,10 +32,10 @@ fn names_pass(estimate: &[u8], b: usize, ops: &[u64; 16]) -> bool
 {
     let shown = estimate::shown(estimate, b);
     let exposed = of_operation(ops, 6);
-    if !each_own(estimate, of_operation(ops, 3)) {
+    if !clauses::own_within(estimate, of_operation(ops, 3)) {
         return false;
     }
-    if !each_own(estimate, exposed) {
+    if !clauses::own_within(estimate, exposed) {
         return false;
     }
     if !sets::is_subset(exposed, shown) {

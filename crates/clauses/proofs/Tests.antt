@@ -1,33 +1,22 @@
--- The clauses of several tests, each on what called functions answered; and clause 1, which the code knows by a flag. Assumes nothing.
+-- The clauses of several tests, each on what called functions answered; and the first one short, as a test. Assumes nothing.
 use mathlib.Core.Path.{_≡_, refl, sym, ap, ap₂, _∙_}
 use mathlib.Core.Bool.{Bool, true, false}
+use mathlib.Core.Logic.{_↔_}
 use mathlib.Core.Option.{Option, none, some}
-use Prim.Native.Nat.{ℕ, _<_}
+use Prim.Native.Nat.{ℕ}
+use lib.Dec.{T}
 use Rattle.definitions.specs.Bounded.{_is_, _isnt_, when, orElse}
-use Rattle.definitions.specs.Sets.{forEach, absent, firstShort, missing, within}
+use Rattle.definitions.specs.Sets.{has, forEach, absent, firstShort, missing, within}
 use Rattle.definitions.specs.Model.{Site, Line}
 use Rattle.definitions.specs.Estimate.{Estimate}
-use Rattle.definitions.specs.Clauses.{clause1, clause2, clause7}
+use Rattle.definitions.specs.Clauses.{clause2, clause7}
 use Rattle.definitions.proofs.Bounded.{is-iff, isnt-iff, true-of, false-of, else-assoc, fault-none}
-use Rattle.definitions.proofs.Sets.{forEach-iff, within-iff, short-iff, missing-iff}
-use Rattle.definitions.proofs.Loops.{fails, holds}
+use Rattle.definitions.proofs.Sets.{forEach-iff, short-iff, absent-iff, missing-within}
 use Rattle.sets.specs.declared.NameNo.{NameNo}
 use Rattle.subsets.specs.declared.Within.{Within}
 use Rattle.subsets.specs.declared.Within.the-variants.{Yes, Lacks}
 use Rattle.subsets.specs.Within.{withinIn}
-use Rattle.clauses.specs.Known.{Clause1Of}
 use Rattle.clauses.proofs.Members.{shorts}
-
--- ---- clause 1
-
-module _ (e : Estimate) (free : Bool) (n : ℕ) where
-  pub one-free : (r : Option ℕ) → free ≡ true → r ≡ absent (e .rho n) n → Clause1Of e free n r
-  unfolding clause1
-  one-free r t q = record { same = λ kinds k. q ∙ sym (ap (λ (x : Bool). when x (absent (e .rho n) n)) (sym k ∙ t)) }
-
-  pub one-other : free ≡ false → Clause1Of e free n none
-  unfolding clause1
-  one-other t = record { same = λ kinds k. sym (ap (λ (x : Bool). when x (absent (e .rho n) n)) (sym k ∙ t)) }
 
 -- ---- clause 2
 
@@ -64,23 +53,31 @@ seven-is e b x y z l u v w t r q et eu ex ev ey ew ez =
     q ∙ ap₂ orElse (eu ∙ ap (λ (i : ℕ). absent i (l .name1)) ex)
     (et ∙ ap₂ orElse (ev ∙ ap (λ (i : ℕ). absent i (l .name1)) ey) (ew ∙ ap (λ (i : ℕ). firstShort (l .type) (λ g. missing (e .rho g) i)) ez))
 
--- ---- the types, as a test
+-- ---- as a test: no name is missing exactly when it passes at every member
 
-module _ (e : Estimate) (s x : ℕ) where
-  types-all : firstShort s (λ g. missing (e .rho g) x) ≡ none → forEach s (λ g. within (e .rho g) x) ≡ true
-  types-all z =
-      true-of (forEach s (λ g. within (e .rho g) x))
-      (forEach-iff s (λ g. within (e .rho g) x) .1 (λ g l t. within-iff (e .rho g) x .1 (missing-iff (e .rho g) x .0 (short-iff s (λ g. missing (e .rho g) x) .0 z g l t))))
+module _ (s : ℕ) (f : ℕ → Option ℕ) (p : ℕ → Bool) (same : (n : ℕ) → (f n ≡ none) ↔ T (p n)) (r : Within) (e : withinIn r ≡ firstShort s f) where
+  as-yes : r ≡ Yes → true ≡ forEach s p
+  as-yes q = sym (true-of (forEach s p) (forEach-iff s p .1 (λ n l t. same n .0 (short-iff s f .0 (sym e ∙ ap withinIn q) n l t))))
 
-  pub types-yes : (r : Within) → withinIn r ≡ firstShort s (λ g. missing (e .rho g) x) → r ≡ Yes → true ≡ forEach s (λ g. within (e .rho g) x)
-  types-yes r q k = sym (types-all (sym q ∙ ap withinIn k))
+  as-no : (x : NameNo) → r ≡ Lacks x → false ≡ forEach s p
+  as-no x q =
+      sym (false-of (forEach s p) (λ u.
+      fault-none true (x .0) (sym (ap withinIn q) ∙ e ∙ short-iff s f .1 (λ n l t. same n .1 (forEach-iff s p .0 u n l t))) tt))
 
-  pub types-no : (r : Within) (n : NameNo) → withinIn r ≡ firstShort s (λ g. missing (e .rho g) x) → r ≡ Lacks n → false ≡ forEach s (λ g. within (e .rho g) x)
-  types-no r n q k =
-      sym (false-of (forEach s (λ g. within (e .rho g) x)) (λ u.
-      let z = short-iff s (λ g. missing (e .rho g) x) .1 (λ g l t. missing-iff (e .rho g) x .1 (within-iff (e .rho g) x .0 (forEach-iff s (λ g. within (e .rho g) x) .0 u g l t))) in
-      fault-none true (n .0) (sym (ap withinIn k) ∙ q ∙ z) tt))
+module _ (e : Estimate) (s : ℕ) (r : Within) where
+  pub own-yes : withinIn r ≡ firstShort s (λ n. absent (e .rho n) n) → r ≡ Yes → true ≡ forEach s (λ n. has (e .rho n) n)
+  own-yes q = as-yes s (λ n. absent (e .rho n) n) (λ n. has (e .rho n) n) (λ n. absent-iff (e .rho n) n) r q
 
-pub ruleset clauses = (shorts, fails, holds, one-free, one-other, byte-zero, byte-other, two-is, types-yes, types-no)
+  pub own-no : (x : NameNo) → withinIn r ≡ firstShort s (λ n. absent (e .rho n) n) → r ≡ Lacks x → false ≡ forEach s (λ n. has (e .rho n) n)
+  own-no x q = as-no s (λ n. absent (e .rho n) n) (λ n. has (e .rho n) n) (λ n. absent-iff (e .rho n) n) r q x
+
+  module _ (x : ℕ) where
+    pub types-yes : withinIn r ≡ firstShort s (λ g. missing (e .rho g) x) → r ≡ Yes → true ≡ forEach s (λ g. within (e .rho g) x)
+    types-yes q = as-yes s (λ g. missing (e .rho g) x) (λ g. within (e .rho g) x) (λ g. missing-within (e .rho g) x) r q
+
+    pub types-no : (y : NameNo) → withinIn r ≡ firstShort s (λ g. missing (e .rho g) x) → r ≡ Lacks y → false ≡ forEach s (λ g. within (e .rho g) x)
+    types-no y q = as-no s (λ g. missing (e .rho g) x) (λ g. within (e .rho g) x) (λ g. missing-within (e .rho g) x) r q y
+
+pub ruleset clauses = (shorts, byte-zero, byte-other, two-is)
 
 pub ruleset sevens = (shorts, seven-is)

@@ -1,15 +1,9 @@
--- What is known of an estimate that has been read and of a line of a model that has; and clause 1, by what the code is given.
--- Assumes nothing.
-use mathlib.Core.Path.{_≡_}
-use mathlib.Core.Bool.{Bool}
+-- What is known of an estimate that has been read, and of a line of a model that has. Assumes nothing.
 use mathlib.Core.List.{List}
-use mathlib.Core.Option.{Option}
 use Prim.Native.Nat.{ℕ, _+_, _*_, _≤_, _<_}
 use lib.ListN.{length}
-use Rattle.definitions.specs.Bounded.{_is_}
-use Rattle.definitions.specs.Model.{Line, kindOfName}
-use Rattle.definitions.specs.Estimate.{Estimate, estimateOf}
-use Rattle.definitions.specs.Clauses.{clause1}
+use Rattle.definitions.specs.Model.{Line}
+use Rattle.definitions.specs.Estimate.{estimateOf}
 use Rattle.sets.specs.Names.{NamesOnly}
 
 -- the image of an estimate: box b's blocks are there, and rho(n) and shown(b) are sets of names
@@ -30,7 +24,3 @@ pub record LineOfNames (l : Line) : Type 0 where
   pub first : l .name1 < 60
   pub second : l .name2 < 60
   pub type : NamesOnly (l .type)
-
--- r is what clause 1 gives at n, for each list of kinds where `free` says whether n is free
-pub record Clause1Of (e : Estimate) (free : Bool) (n : ℕ) (r : Option ℕ) : Type 0 where
-  pub same : (kinds : List ℕ) → free ≡ (kindOfName kinds n is 0) → r ≡ clause1 e kinds n

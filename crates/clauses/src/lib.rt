@@ -10,21 +10,38 @@ ghost use Rattle.definitions.specs.Clauses as clauses;
 ghost use Rattle.records.specs.Records.{siteIn, lineIn};
 ghost use Rattle.sets.specs.Names.{NamesOnly};
 ghost use Rattle.subsets.specs.Within.{withinIn};
-ghost use Rattle.clauses.specs.Known.{BoxOfNames, LineOfNames, Clause1Of};
+ghost use Rattle.clauses.specs.Known.{BoxOfNames, LineOfNames};
 use records::Line;
 use records::Site;
-use sets::NameNo;
 use subsets::Within;
 
-// 1. free n: n in rho(n).
-pub fn clause1(estimate: &[u8], free: bool, n: NameNo) -> Within
-    requires { ⌜ (512 ≤ length (now estimate)) × (n .0 < 62) ⌝ }
-    ensures { λ r. ⌜ Clause1Of (estimateOf (now (estimate .entry))) free (n .0) (withinIn r) ⌝ }
+// n in rho(n) for each n in s, ascending: clause 1, where s has the free names.
+pub fn own_missing(estimate: &[u8], s: u64) -> Within
+    requires { ⌜ (512 ≤ length (now estimate)) × NamesOnly s ⌝ }
+    ensures { λ r. ⌜ withinIn r ≡ names.firstShort s (λ n. names.absent (estimateOf (now (estimate .entry)) .rho n) n) ⌝ }
 {
-    if !free {
-        return Within::Yes;
+    let mut left = s;
+    while left != 0 {
+        let n = sets::lowest(left);
+        let r = subsets::absent(estimate::rho(estimate, n), n);
+        if let Within::Lacks(_) = r {
+            return r;
+        }
+        left = sets::without_lowest(left);
     }
-    subsets::absent(estimate::rho(estimate, n), n)
+    Within::Yes
+}
+
+// The same as a test.
+pub fn own_within(estimate: &[u8], s: u64) -> bool
+    requires { ⌜ (512 ≤ length (now estimate)) × NamesOnly s ⌝ }
+    ensures { λ r. ⌜ r ≡ names.forEach s (λ n. names.has (estimateOf (now (estimate .entry)) .rho n) n) ⌝ }
+{
+    let r = own_missing(estimate, s);
+    match r {
+        Within::Yes => true,
+        Within::Lacks(_) => false,
+    }
 }
 
 // The subject of a starting site in shown(b) or hidden(b), as its byte says.

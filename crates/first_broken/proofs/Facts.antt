@@ -6,17 +6,16 @@ use mathlib.Core.Logic.{_≢_}
 use Prim.Native.Nat.{ℕ, _+_, _*_, _/_, _%_, _≤_, _<_}
 use native.Mathlib.Omega.{arith}
 use native.Mathlib.Decide.{ℕ-discrete}
-use mir.Val.{Fits}
-use mir.Syntax.{w8}
 use lib.Dec.{T}
 use lib.ListN.{length}
+use Rattle.definitions.specs.Bounded.{_is_, _below_}
 use Rattle.definitions.specs.Sets.{has}
 use Rattle.definitions.specs.Words.{blockOf, countOf}
 use Rattle.definitions.specs.Model as paper
-use Rattle.definitions.specs.Image.{siteRecord, lineRecord, nameCount, boxesOf, sitesBlock, linesOf, boxOfImage, modelOf}
+use Rattle.definitions.specs.Image.{siteRecord, lineRecord, nameCount, boxesOf, kindsOf, sitesBlock, linesOf, boxOfImage, modelOf}
 use Rattle.definitions.specs.Estimate.{estimateOf}
 use Rattle.definitions.specs.ReadModel.{lineFits, typeFits, usesName1, usesName2}
-use Rattle.definitions.proofs.Bounded.{tests, not-false}
+use Rattle.definitions.proofs.Bounded.{tests, and-iff, below-iff, true-of, of-true, not-false}
 use Rattle.definitions.proofs.Faults.{not-iff}
 use Rattle.definitions.proofs.Sets.{forEach-iff, has-none}
 use Rattle.definitions.proofs.Image.{model-count, model-box, box-sites, box-site, box-lines, box-line}
@@ -82,8 +81,13 @@ module _ (model estimate : List ℕ) (u : Unrefused model estimate) where
   pub count-60 : (l : Layout) → LayoutOf model l → l .names ≤ 60
   count-60 l h = omega (arith, names-60, h .frame .names)
 
-  pub count-fits : (l : Layout) → LayoutOf model l → Fits w8 (l .names)
-  count-fits l h = record { fits = omega (arith, names-60, h .frame .names) }
+  pub free-names : (l : Layout) → LayoutOf model l → NamesOnly (l .free)
+  free-names l h = record {
+    below = λ n k t.
+        let b = n below nameCount model in
+        let f = and-iff b (paper.kindOfName (kindsOf model) n is 0) .0 (of-true (sym (h .frame .free n k) ∙ true-of (has (l .free) n) t)) in
+        omega (arith, names-60, below-iff n (nameCount model) .0 (f .0));
+  }
 
   pub estimate-512 : 512 ≤ length estimate
   estimate-512 = omega (arith, fits .size)

@@ -37,7 +37,7 @@ use Rattle.record_clauses.specs.Found.{foundIn}
 use Rattle.record_clauses.specs.Known.{NamesFound, LineFound}
 use Rattle.record_clauses.proofs.Steps.{nothing, first-else, first-of}
 use Rattle.first_broken.specs.Known.{Unrefused}
-use Rattle.first_broken.proofs.Facts.{box-8, count-60, count-fits, estimate-512, names-boxes, box-names, eps-there, site-there, site-at, site-31, site-62, line-at, line-there, line-names, lines-named}
+use Rattle.first_broken.proofs.Facts.{box-8, count-60, free-names, estimate-512, names-boxes, box-names, eps-there, site-there, site-at, site-31, site-62, line-at, line-there, line-names, lines-named}
 
 -- ---- clause 2
 
@@ -135,18 +135,15 @@ module _ (model : List ℕ) (l : Layout) (h : LayoutOf model l) (b : ℕ) (insid
 
 -- ---- names, then boxes
 
-module _ (model : List ℕ) (l : Layout) (h : LayoutOf model l) (e : Estimate) (f : Found) (few : l .names ≤ 60) (ef : NamesFound e (l .free) (l .names) (foundIn f)) where
-  free-in : (n : ℕ) → n < l .names → has (l .free) n ≡ (paper.kindOfName (modelOf model .kinds) n is 0)
-  unfolding _and_
+module _ (model : List ℕ) (l : Layout) (h : LayoutOf model l) (e : Estimate) (f : Found) (few : l .names ≤ 60) (ef : NamesFound e (l .free) (foundIn f)) where
+  free-in : (n : ℕ) → n < 64 → has (l .free) n ≡ paper.isFree (modelOf model .kinds) n
   free-in n k =
-      h .frame .free n (omega (arith, few))
-      ∙ ap (λ (x : Bool). x and paper.kindOfName (kindsOf model) n is 0) (true-of (n below nameCount model) (below-iff n (nameCount model) .1 (rw (h .frame .names) at k)))
-      ∙ ap (λ (x : List ℕ). paper.kindOfName x n is 0) (sym (model-kinds model))
+      h .frame .free n k ∙ ap (λ (c : ℕ). n below c and paper.kindOfName (kindsOf model) n is 0) (sym (model-names model))
+      ∙ ap (λ (x : List ℕ). paper.isFree x n) (sym (model-kinds model))
 
   names-first : foundIn f ≡ firstBelow (length (modelOf model .kinds)) (cl.nameBroken (modelOf model) e)
   names-first =
-      ef .same (modelOf model) free-in
-      ∙ ap (λ (n : ℕ). firstBelow n (cl.nameBroken (modelOf model) e)) (h .frame .names ∙ sym (ap length (model-kinds model) ∙ model-names model))
+      ef .same (modelOf model) (omega (arith, few, h .frame .names, ap length (model-kinds model) ∙ model-names model)) free-in
 
   pub all-stop : (x : Broken) → f ≡ First x → foundIn f ≡ cl.firstBroken (modelOf model) e
   unfolding cl.firstBroken
@@ -172,4 +169,4 @@ pub ruleset boxes = (needs, box-8, passed-start, passed-turn, passed-end, nothin
 
 pub ruleset walks = (needs, layout-lines, layout-walked, inside-of, names-boxes, lines-named, shown-none)
 
-pub ruleset finds = (needs, count-60, count-fits, estimate-512, names-boxes, all-stop, all-go)
+pub ruleset finds = (needs, count-60, free-names, estimate-512, names-boxes, all-stop, all-go)

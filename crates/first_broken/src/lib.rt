@@ -16,7 +16,7 @@ pub fn find(model: &[u8], estimate: &[u8], layout: Layout) -> Found
     requires { ⌜ Unrefused (now model) (now estimate) × LayoutOf (now model) layout ⌝ }
     ensures { λ r. ⌜ foundIn r ≡ firstBroken (modelOf (now (model .entry))) (estimateOf (now (estimate .entry))) ⌝ }
 {
-    let f = record_clauses::names::names(estimate, layout.free, layout.names as u8);
+    let f = record_clauses::names::names(estimate, layout.free);
     if let Found::First(_) = f {
         return f;
     }

@@ -1,23 +1,28 @@
 -- Laws of the clauses at one record: a name, and a line by its operation. Assumes nothing.
 use mathlib.Core.Path.{_≡_, refl, sym, ap, ap₂, _∙_}
-use mathlib.Core.Bool.{Bool, true, false}
+use mathlib.Core.Bool.{Bool, true, false, not}
 use mathlib.Core.Option.{Option, none, some}
-use Prim.Native.Nat.{ℕ, _+_, _≤_, _<_}
+use Prim.Native.Nat.{ℕ, _≤_, _<_}
+use native.Mathlib.Nat.{lt-trans}
 use native.Mathlib.Omega.{arith}
 use borrow.Author.Needs.{needs}
-use Rattle.definitions.specs.Bounded.{_is_, when, orElse, firstBelow}
-use Rattle.definitions.specs.Sets.{has, within}
+use lib.Dec.{T}
+use lib.ListN.{length}
+use Rattle.definitions.specs.Bounded.{_and_, _is_, _below_, when, orElse, firstBelow}
+use Rattle.definitions.specs.Sets.{has, absent, firstShort, within}
 use Rattle.definitions.specs.Model as paper
 use Rattle.definitions.specs.Estimate.{Estimate}
 use Rattle.definitions.specs.Clauses as cl
-use Rattle.definitions.proofs.Bounded.{is-iff, true-of, of-true, false-of}
-use Rattle.definitions.proofs.Loops.{Passed, passed-start, passed-turn, passed-end, else-go, answer-none, answer-else, answer-stop}
+use Rattle.definitions.proofs.Bounded.{and-iff, is-iff, below-iff, true-of, of-true, false-of, fault-some, each-none, first-stop}
+use Rattle.definitions.proofs.Sets.{short-iff, short-some}
+use Rattle.definitions.proofs.Faults.{when-iff}
+use Rattle.definitions.proofs.Clauses.{at-iff}
+use Rattle.definitions.proofs.Loops.{Passed, else-go, answer-none, answer-else, answer-stop}
 use Rattle.records.specs.declared.Line.{Line}
 use Rattle.sets.specs.declared.NameNo.{NameNo}
 use Rattle.subsets.specs.declared.Within.{Within}
 use Rattle.subsets.specs.declared.Within.the-variants.{Yes, Lacks}
 use Rattle.subsets.specs.Within.{withinIn}
-use Rattle.clauses.specs.Known.{Clause1Of}
 use Rattle.clauses.proofs.Members.{rho-names, box-62, names-62, second-62, box-512, box-1024}
 use Rattle.sharing.specs.declared.Gathered.{Gathered}
 use Rattle.sharing.specs.Shared.{Least, allSentIn, sharedOn, maySend, GatheredOf}
@@ -27,7 +32,7 @@ use Rattle.record_clauses.specs.declared.Broken.{Broken}
 use Rattle.record_clauses.specs.declared.Found.{Found}
 use Rattle.record_clauses.specs.declared.Found.the-variants.{Nothing, First}
 use Rattle.record_clauses.specs.Found.{brokenIn, foundIn}
-use Rattle.record_clauses.specs.Known.{NameFound, NamesFound, Decides, LineFound}
+use Rattle.record_clauses.specs.Known.{NamesFound, Decides, LineFound}
 
 -- ---- one after another
 
@@ -56,30 +61,46 @@ module _ (n b i : ℕ) (w : Within) where
 
 -- ---- clause 1
 
-pub name-is : (e : Estimate) (free n : ℕ) (t : Bool) (o : Option ℕ) (r : Option cl.Broken) → t ≡ has free n → Clause1Of e t n o → r ≡ cl.brokenAt 1 0 n o
-    → NameFound e free n r
-unfolding cl.nameBroken
-name-is e free n t o r et c q = record { same = λ m k. q ∙ ap (cl.brokenAt 1 0 n) (c .same (m .kinds) (et ∙ k)) }
+-- no name is missing at n, where a set that has n if it is free is short of nothing there
+module _ (m : paper.Model) (e : Estimate) (free : ℕ) (same : (n : ℕ) → n < 64 → has free n ≡ paper.isFree (m .kinds) n) where
+  name-none : (n : ℕ) → n < 64 → n < length (m .kinds) → (T (has free n) → absent (e .rho n) n ≡ none) → cl.nameBroken m e n ≡ none
+  unfolding cl.nameBroken cl.clause1
+  name-none n l h f =
+      at-iff 1 0 n (when (paper.kindOfName (m .kinds) n is 0) (absent (e .rho n) n)) .1
+      (when-iff (paper.kindOfName (m .kinds) n is 0) (absent (e .rho n) n) .1 (λ t. f (of-true (same n l ∙ true-of (paper.isFree (m .kinds) n)
+      (and-iff (n below length (m .kinds)) (paper.kindOfName (m .kinds) n is 0) .1 (below-iff n (length (m .kinds)) .1 h, t))))))
 
--- the names below n break nothing, in each model where the set says which are free
-pub record NamesPassed (e : Estimate) (free count n : ℕ) : Type 0 where
-  pub each : (m : paper.Model) → ((i : ℕ) → i < count → has free i ≡ (paper.kindOfName (m .kinds) i is 0)) → Passed count (cl.nameBroken m e) n
+  name-some : (n : ℕ) → n < 64 → T (has free n) → absent (e .rho n) n ≡ some n → (n < length (m .kinds)) × (cl.nameBroken m e n ≡ some (cl.broken 1 0 n n))
+  unfolding cl.nameBroken cl.clause1
+  name-some n l t z =
+      let f = and-iff (n below length (m .kinds)) (paper.kindOfName (m .kinds) n is 0) .0 (of-true (sym (same n l) ∙ true-of (has free n) t)) in (
+        below-iff n (length (m .kinds)) .0 (f .0),
+        ap (cl.brokenAt 1 0 n) (ap (λ (b : Bool). when b (absent (e .rho n) n)) (true-of (paper.kindOfName (m .kinds) n is 0) (f .1)) ∙ z),
+      )
 
-module _ (e : Estimate) (free count : ℕ) where
-  pub names-start : NamesPassed e free count 0
-  names-start = record { each = λ m _. passed-start count (cl.nameBroken m e) }
+own-name : (s n x : ℕ) → absent s n ≡ some x → n ≡ x
+unfolding absent
+own-name s n x z = fault-some (not (has s n)) n x z .1
 
-  pub names-end : (n : ℕ) → NamesPassed e free count n → count ≤ n → NamesFound e free count none
-  names-end n p l = record { same = λ m k. passed-end count (cl.nameBroken m e) n (p .each m k) l }
+module _ (e : Estimate) (free : ℕ) (w : Within) (q : withinIn w ≡ firstShort free (λ n. absent (e .rho n) n)) where
+  pub names-yes : w ≡ Yes → NamesFound e free none
+  names-yes k = record {
+    same = λ m few same. sym (each-none (cl.nameBroken m e) (length (m .kinds)) (λ n h.
+        let l : n < 64 = omega (arith, h, few) in
+        name-none m e free same n l h (short-iff free (λ n. absent (e .rho n) n) .0 (sym q ∙ ap withinIn k) n l)));
+  }
 
-  module _ (n : ℕ) (f : Found) (p : NamesPassed e free count n) (l : n < count) (q : NameFound e free n (foundIn f)) where
-    pub names-turn : f ≡ Nothing → NamesPassed e free count (n + 1)
-    names-turn z = record {
-      each = λ m k. passed-turn count (cl.nameBroken m e) n (p .each m k) l (nothing f (cl.nameBroken m e n) (q .same m (k n l)) z);
-    }
-
-    pub names-stop : (a : Broken) → f ≡ First a → NamesFound e free count (foundIn f)
-    names-stop a z = record { same = λ m k. first-of f count (cl.nameBroken m e) n a (p .each m k) l (q .same m (k n l)) z }
+  pub names-lacks : (x : NameNo) → w ≡ Lacks x → NamesFound e free (some (cl.broken 1 0 (x .0) (x .0)))
+  names-lacks x k = record {
+    same = λ m few same.
+        let y = short-some free (λ n. absent (e .rho n) n) (x .0) (sym q ∙ ap withinIn k) in
+        let n = y .0 in
+        let own = own-name (e .rho n) n (x .0) (y .3) in
+        let f = name-some m e free same n (y .1) (y .2) (y .3 ∙ ap some (sym own)) in
+        ap (λ (i : ℕ). some (cl.broken 1 0 i i)) (sym own)
+        ∙ sym (first-stop (cl.nameBroken m e) (length (m .kinds)) (f .0) (each-none (cl.nameBroken m e) n (λ j h.
+        name-none m e free same j (lt-trans h (y .1)) (lt-trans h (f .0)) (λ t. y .4 j h t))) (f .1));
+  }
 
 -- ---- a line, by its operation
 
@@ -191,7 +212,7 @@ module _ (e : Estimate) (boxes b : ℕ) (l : paper.Line) (g : Gathered) where
     pub may-6 : l .op ≡ 5 → MetWhere (within (g .asks) (e .rho (l .name2))) (cl.clause6 e boxes b l)
     may-6 = d .six
 
-pub ruleset clauses-1 = (needs, at-yes, at-lacks, name-is, names-start, names-turn, names-stop, names-end)
+pub ruleset clauses-1 = (needs, at-yes, at-lacks, names-yes)
 
 pub ruleset arms = (needs, box-512, box-1024, names-62, nothing-else, arm-3, arm-4, arm-5, arm-6, arm-7, arm-8, arm-none)
 

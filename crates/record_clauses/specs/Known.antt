@@ -1,22 +1,19 @@
--- What is found at a name and at a line, for each model that has them. Assumes nothing.
+-- What is found at the names and at a line, for each model that has them. Assumes nothing.
 use mathlib.Core.Path.{_≡_}
 use mathlib.Core.Option.{Option}
-use Prim.Native.Nat.{ℕ, _<_}
-use Rattle.definitions.specs.Bounded.{_is_, firstBelow}
+use Prim.Native.Nat.{ℕ, _≤_, _<_}
+use lib.ListN.{length}
+use Rattle.definitions.specs.Bounded.{firstBelow}
 use Rattle.definitions.specs.Sets.{has, within}
-use Rattle.definitions.specs.Model.{Line, Model, boxAt, lineAt, boxCount, kindOfName, output, input}
+use Rattle.definitions.specs.Model.{Line, Model, boxAt, lineAt, boxCount, isFree, output, input}
 use Rattle.definitions.specs.Estimate.{Estimate}
 use Rattle.definitions.specs.Clauses.{Broken, clause4, clause5, clause6, nameBroken, lineBroken}
 use Rattle.sharing.specs.declared.Gathered.{Gathered}
 use Rattle.shortages.specs.Partners.{MetWhere}
 
--- r is what clause 1 finds at n, in each model where a set says whether n is free
-pub record NameFound (e : Estimate) (free n : ℕ) (r : Option Broken) : Type 0 where
-  pub same : (m : Model) → has free n ≡ (kindOfName (m .kinds) n is 0) → r ≡ nameBroken m e n
-
--- and at the names below count
-pub record NamesFound (e : Estimate) (free count : ℕ) (r : Option Broken) : Type 0 where
-  pub same : (m : Model) → ((n : ℕ) → n < count → has free n ≡ (kindOfName (m .kinds) n is 0)) → r ≡ firstBelow count (nameBroken m e)
+-- r is what clause 1 finds, in each model of which a set has the free names
+pub record NamesFound (e : Estimate) (free : ℕ) (r : Option Broken) : Type 0 where
+  pub same : (m : Model) → length (m .kinds) ≤ 64 → ((n : ℕ) → n < 64 → has free n ≡ isFree (m .kinds) n) → r ≡ firstBelow (length (m .kinds)) (nameBroken m e)
 
 -- what is gathered may show that clauses 4, 5 and 6 are met at line l of box b
 pub record Decides (e : Estimate) (boxes b : ℕ) (l : Line) (g : Gathered) : Type 0 where

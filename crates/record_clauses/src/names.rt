@@ -1,34 +1,30 @@
 // Clause 1, by name.
-ghost use Prim.Native.Nat.{_<_, _≤_};
+ghost use Prim.Native.Nat.{_≤_};
 ghost use lib.ListN.{length};
 ghost use Rattle.definitions.specs.Estimate.{estimateOf};
+ghost use Rattle.sets.specs.Names.{NamesOnly};
 ghost use Rattle.record_clauses.specs.Found.{foundIn};
-ghost use Rattle.record_clauses.specs.Known.{NameFound, NamesFound};
+ghost use Rattle.record_clauses.specs.Known.{NamesFound};
+use crate::Broken;
 use crate::Found;
-use crate::lines;
-use sets::NameNo;
+use subsets::Within;
 
-// free: the free names.
-fn name(estimate: &[u8], free: u64, n: NameNo) -> Found
-    requires { ⌜ (512 ≤ length (now estimate)) × (n .0 < 62) ⌝ }
-    ensures { λ r. ⌜ NameFound (estimateOf (now (estimate .entry))) free (n .0) (foundIn r) ⌝ }
+// The free names, ascending: the first that is not in its own set is the record, and is what is missing.
+pub fn names(estimate: &[u8], free: u64) -> Found
+    requires { ⌜ (512 ≤ length (now estimate)) × NamesOnly free ⌝ }
+    ensures { λ r. ⌜ NamesFound (estimateOf (now (estimate .entry))) free (foundIn r) ⌝ }
 {
-    let w = clauses::clause1(estimate, sets::contains(free, n), n);
-    lines::broken_at(w, 1, 0, n.0 as usize)
-}
-
-// The names below count.
-pub fn names(estimate: &[u8], free: u64, count: u8) -> Found
-    requires { ⌜ (512 ≤ length (now estimate)) × (count ≤ 60) ⌝ }
-    ensures { λ r. ⌜ NamesFound (estimateOf (now (estimate .entry))) free count (foundIn r) ⌝ }
-{
-    let mut n: u8 = 0;
-    while n < count {
-        let f = name(estimate, free, NameNo(n));
-        if let Found::First(_) = f {
-            return f;
+    let w = clauses::own_missing(estimate, free);
+    match w {
+        Within::Yes => Found::Nothing,
+        Within::Lacks(n) => {
+            let place = n.0 as usize;
+            Found::First(Broken {
+                clause: 1,
+                boxno: 0,
+                place: place,
+                name: n,
+            })
         }
-        n += 1;
     }
-    Found::Nothing
 }

@@ -58,6 +58,13 @@ fn note_name(report: &mut Report, model: &[u8], estimate: &[u8], broken: Broken)
     standings.into_iter().for_each(|at| report.tally.verdicts.names.add(at));
 }
 
+/// Compares the calls on two images, and notes how the missing name stands where a clause is broken.
+pub fn compare_names(report: &mut Report, model: &[u8], estimate: &[u8]) {
+    if let (Verdict::Broken(broken), _) = compare_pair(report, model, estimate, 0) {
+        note_name(report, model, estimate, broken);
+    }
+}
+
 /// The state with which a case begins: its own words, or what a start writes.
 fn begun(report: &mut Report, rng: &mut Rng, case: &Case) -> Lent {
     match &case.words {

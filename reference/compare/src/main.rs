@@ -17,6 +17,7 @@ mod packing;
 mod proved;
 mod report;
 mod runs;
+mod short;
 mod speed;
 mod states;
 mod tally;
@@ -33,9 +34,10 @@ use timing::Measured;
 type Compare = fn(&mut Report);
 
 /// The parts of the comparison.
-const PARTS: [(&str, Compare); 5] = [
+const PARTS: [(&str, Compare); 6] = [
     ("block checks", checks::compare),
     ("images", images::compare),
+    ("short estimates", short::compare),
     ("walks", walks::compare),
     ("states", states::compare),
     ("runs", runs::compare),

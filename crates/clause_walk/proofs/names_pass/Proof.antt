@@ -13,14 +13,14 @@ of-operation-requires c κs = search needs
 of-operation-requires-2 : tie.Need-of-operation-requires-2
 of-operation-requires-2 c κs = search needs
 
-each-own-requires : tie.Need-each-own-requires
-each-own-requires c κs = search named
+own-within-requires : tie.Need-own-within-requires
+own-within-requires c κs = search named
 
 returns : tie.Need-returns
 returns c = search named
 
-each-own-requires-2 : tie.Need-each-own-requires-2
-each-own-requires-2 c κs = search named
+own-within-requires-2 : tie.Need-own-within-requires-2
+own-within-requires-2 c κs = search named
 
 returns-2 : tie.Need-returns-2
 returns-2 c = search named
@@ -59,9 +59,9 @@ names-pass-spec =
     shown-requires
     of-operation-requires
     of-operation-requires-2
-    each-own-requires
+    own-within-requires
     returns
-    each-own-requires-2
+    own-within-requires-2
     returns-2
     is-subset-requires
     returns-3

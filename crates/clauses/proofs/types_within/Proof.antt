@@ -20,4 +20,5 @@ returns-2 : tie.Need-returns-2
 returns-2 c = types-no (estimateOf _) _ _ _ _ (c .before .before .types-missing .ensures) (c .enum-told2 .given .1)
 
 pub types-within-spec : {M : Type 1} → statement M
-types-within-spec = tie.close (tie.spec types-missing-requires enum-told enum-told-2 returns returns-2)
+types-within-spec =
+    tie.close (tie.spec types-missing-requires enum-told enum-told-2 returns returns-2)

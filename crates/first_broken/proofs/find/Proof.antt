@@ -3,9 +3,6 @@ use Rattle.first_broken.proofs.Steps.{finds}
 use Rattle.first_broken.proofs.find.Statement.{statement}
 use Rattle.first_broken.proofs.find.Tie as tie
 
-cast-names : tie.Need-cast-names
-cast-names c = search finds
-
 names-requires : tie.Need-names-requires
 names-requires c κs = search finds
 
@@ -34,7 +31,6 @@ pub find-spec : {M : Type 1} → statement M
 find-spec =
     tie.close
     (tie.spec
-    cast-names
     names-requires
     enum-told
     returns
