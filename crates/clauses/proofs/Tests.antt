@@ -79,5 +79,3 @@ module _ (e : Estimate) (s : ℕ) (r : Within) where
     types-no y q = as-no s (λ g. missing (e .rho g) x) (λ g. within (e .rho g) x) (λ g. missing-within (e .rho g) x) r q y
 
 pub ruleset clauses = (shorts, byte-zero, byte-other, two-is)
-
-pub ruleset sevens = (shorts, seven-is)

@@ -26,7 +26,7 @@ use Rattle.records.specs.declared.Site.{Site}
 use Rattle.records.specs.declared.Line.{Line}
 use Rattle.layouts.specs.declared.Layout.{Layout}
 use Rattle.records.specs.Records.{siteIn, lineIn}
-use Rattle.layouts.specs.LayoutOf.{LayoutOf}
+use Rattle.layouts.specs.LayoutOf.{OfKind, LayoutOf}
 use Rattle.sets.specs.Names.{NamesOnly}
 use Rattle.clauses.specs.Known.{BoxOfNames, EstimateOfNames, LineOfNames}
 use Rattle.line_gather.specs.Gathered.{LinesOfNames}
@@ -81,12 +81,12 @@ module _ (model estimate : List ℕ) (u : Unrefused model estimate) where
   pub count-60 : (l : Layout) → LayoutOf model l → l .names ≤ 60
   count-60 l h = omega (arith, names-60, h .frame .names)
 
-  pub free-names : (l : Layout) → LayoutOf model l → NamesOnly (l .free)
-  free-names l h = record {
-    below = λ n k t.
-        let b = n below nameCount model in
-        let f = and-iff b (paper.kindOfName (kindsOf model) n is 0) .0 (of-true (sym (h .frame .free n k) ∙ true-of (has (l .free) n) t)) in
-        omega (arith, names-60, below-iff n (nameCount model) .0 (f .0));
+  -- the names of a kind
+  pub kind-names : (k s : ℕ) → OfKind model k s → NamesOnly s
+  kind-names k s f = record {
+    below = λ n l t.
+        let g = and-iff (n below nameCount model) (paper.kindOfName (kindsOf model) n is k) .0 (of-true (sym (f n l) ∙ true-of (has s n) t)) in
+        omega (arith, names-60, below-iff n (nameCount model) .0 (g .0));
   }
 
   pub estimate-512 : 512 ≤ length estimate

@@ -37,7 +37,7 @@ use Rattle.record_clauses.specs.Found.{foundIn}
 use Rattle.record_clauses.specs.Known.{NamesFound, LineFound}
 use Rattle.record_clauses.proofs.Steps.{nothing, first-else, first-of}
 use Rattle.first_broken.specs.Known.{Unrefused}
-use Rattle.first_broken.proofs.Facts.{box-8, count-60, free-names, estimate-512, names-boxes, box-names, eps-there, site-there, site-at, site-31, site-62, line-at, line-there, line-names, lines-named}
+use Rattle.first_broken.proofs.Facts.{box-8, count-60, kind-names, estimate-512, names-boxes, box-names, eps-there, site-there, site-at, site-31, site-62, line-at, line-there, line-names, lines-named}
 
 -- ---- clause 2
 
@@ -169,4 +169,4 @@ pub ruleset boxes = (needs, box-8, passed-start, passed-turn, passed-end, nothin
 
 pub ruleset walks = (needs, layout-lines, layout-walked, inside-of, names-boxes, lines-named, shown-none)
 
-pub ruleset finds = (needs, count-60, free-names, estimate-512, names-boxes, all-stop, all-go)
+pub ruleset finds = (needs, count-60, kind-names, estimate-512, names-boxes, all-stop, all-go)
