@@ -1,8 +1,8 @@
 -- A walk over the members of a set of names; and tests on what called functions answered. Assumes nothing.
 use mathlib.Core.Path.{_≡_, sym, ap, ap₂, _∙_}
-use mathlib.Core.Bool.{Bool}
+use mathlib.Core.Bool.{Bool, true}
 use mathlib.Core.List.{List}
-use mathlib.Core.Option.{Option}
+use mathlib.Core.Option.{Option, none}
 use Prim.Native.Nat.{ℕ, _+_, _*_, _≤_, _<_}
 use native.Mathlib.Omega.{arith}
 use borrow.Author.Needs.{needs}
@@ -18,7 +18,7 @@ use Rattle.sets.specs.Lowest.{lowestOf}
 use Rattle.sets.specs.Names.{NamesOnly}
 use Rattle.sets.proofs.Walk.{Left, left-name, lowest-below, walk-less, each-start, each-turn, each-stop, each-end}
 use Rattle.subsets.proofs.Walk.{short-start, short-turn, short-stop, short-end}
-use Rattle.clauses.specs.Known.{BoxOfNames, EstimateOfNames, LineOfNames}
+use Rattle.clauses.specs.Known.{BoxOfNames, EstimateOfNames, LineOfNames, MetWhere}
 
 pub left-62 : (s left n : ℕ) → NamesOnly s → Left s left → (left ≡ 0 → ⊥) → n ≡ lowestOf left → n < 62
 left-62 s left n f w z e = omega (arith, left-name s left n f w z e)
@@ -56,6 +56,10 @@ names-shown image boxes b s k h e = rw e (k .shown b h)
 -- so are the members of one that another has too
 pub names-both : (e : Estimate) (b s d y : ℕ) → NamesOnly s → y ≡ e .shown b → ((m : ℕ) → has d m ≡ (has s m and has y m)) → NamesOnly d
 names-both e b s d y f ey both = record { below = λ n l t. f .below n l (and-iff (has s n) (has y n) .0 (of-true (sym (both n) ∙ true-of (has d n) t)) .0) }
+
+-- a clause that a test shows met
+pub met-yes : (t r : Bool) (o : Option ℕ) → MetWhere t o → r ≡ t → r ≡ true → none ≡ o
+met-yes t r o m e h = sym (m .met (of-true (sym e ∙ h)))
 
 -- ---- what the calls require
 

@@ -1,6 +1,10 @@
 -- What is known of an estimate that has been read, and of a line of a model that has. Assumes nothing.
+use mathlib.Core.Path.{_≡_}
+use mathlib.Core.Bool.{Bool}
 use mathlib.Core.List.{List}
+use mathlib.Core.Option.{Option, none}
 use Prim.Native.Nat.{ℕ, _+_, _*_, _≤_, _<_}
+use lib.Dec.{T}
 use lib.ListN.{length}
 use Rattle.definitions.specs.Model.{Line}
 use Rattle.definitions.specs.Estimate.{estimateOf}
@@ -24,3 +28,7 @@ pub record LineOfNames (l : Line) : Type 0 where
   pub first : l .name1 < 60
   pub second : l .name2 < 60
   pub type : NamesOnly (l .type)
+
+-- a clause that a test may show met: where it passes no name is missing
+pub record MetWhere (t : Bool) (o : Option ℕ) : Type 0 where
+  pub met : T t → o ≡ none

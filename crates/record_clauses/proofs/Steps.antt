@@ -27,7 +27,7 @@ use Rattle.clauses.proofs.Members.{rho-names, box-62, names-62, second-62, box-
 use Rattle.sharing.specs.declared.Gathered.{Gathered}
 use Rattle.sharing.specs.Shared.{Least, allSentIn, sharedOn, maySend, GatheredOf}
 use Rattle.sharing.proofs.Gather.{four-met, five-met, six-met}
-use Rattle.shortages.specs.Partners.{MetWhere}
+use Rattle.clauses.specs.Known.{MetWhere}
 use Rattle.record_clauses.specs.declared.Broken.{Broken}
 use Rattle.record_clauses.specs.declared.Found.{Found}
 use Rattle.record_clauses.specs.declared.Found.the-variants.{Nothing, First}

@@ -9,7 +9,7 @@ use Rattle.definitions.specs.Model.{Line, Model, boxAt, lineAt, boxCount, isFre
 use Rattle.definitions.specs.Estimate.{Estimate}
 use Rattle.definitions.specs.Clauses.{Broken, clause4, clause5, clause6, nameBroken, lineBroken}
 use Rattle.sharing.specs.declared.Gathered.{Gathered}
-use Rattle.shortages.specs.Partners.{MetWhere}
+use Rattle.clauses.specs.Known.{MetWhere}
 
 -- r is what clause 1 finds, in each model of which a set has the free names
 pub record NamesFound (e : Estimate) (free : ℕ) (r : Option Broken) : Type 0 where

@@ -86,7 +86,7 @@ pub fn by_operation(
         4 => broken_at(shortages::clause4(estimate, g.most, b, l), 4, b, i),
         5 => {
             let five = broken_at(shortages::clause5(estimate, g.all, b, l), 5, b, i);
-            let six = broken_at(shortages::clause6(estimate, g.asks, boxes, b, l), 6, b, i);
+            let six = broken_at(partners::clause6(estimate, g.asks, boxes, b, l), 6, b, i);
             earlier(five, six)
         }
         6 => broken_at(clauses::clause7(estimate, b, l), 7, b, i),

@@ -1,1 +1,1 @@
-pub mod Partners
+pub mod Walks

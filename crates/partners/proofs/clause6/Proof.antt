@@ -1,9 +1,9 @@
--- `shortages::clause6` meets its contract: by one test, or by the walk. Assumes nothing.
+-- `partners::clause6` meets its contract: by one test, or by the walk. Assumes nothing.
 use Rattle.definitions.specs.Estimate.{estimateOf}
 use Rattle.clauses.proofs.Members.{names-both}
-use Rattle.shortages.proofs.Partners.{found}
-use Rattle.shortages.proofs.clause6.Statement.{statement}
-use Rattle.shortages.proofs.clause6.Tie as tie
+use Rattle.partners.proofs.Partners.{found}
+use Rattle.partners.proofs.clause6.Statement.{statement}
+use Rattle.partners.proofs.clause6.Tie as tie
 
 takes-requires : tie.Need-takes-requires
 takes-requires c κs = search found

@@ -1,10 +1,10 @@
--- `shortages::at_box` meets its contract: the shown names left give the answer. Assumes nothing.
+-- `partners::at_box` meets its contract: the shown names left give the answer. Assumes nothing.
 use Rattle.definitions.specs.Estimate.{estimateOf}
 use Rattle.subsets.proofs.Walk.{ShortLeft}
-use Rattle.shortages.specs.Partners.{fitting}
-use Rattle.shortages.proofs.Partners.{partners}
-use Rattle.shortages.proofs.at_box.Statement.{statement}
-use Rattle.shortages.proofs.at_box.Tie as tie
+use Rattle.partners.specs.Partners.{fitting}
+use Rattle.partners.proofs.Partners.{partners}
+use Rattle.partners.proofs.at_box.Statement.{statement}
+use Rattle.partners.proofs.at_box.Tie as tie
 
 abbrev Inv-loop : tie.InvT-loop
 Inv-loop estimate boxes b x q k left₀ left = ShortLeft (fitting (estimateOf estimate) x q k) (estimateOf estimate .shown k) left

@@ -1,11 +1,11 @@
--- `shortages::at_boxes` meets its contract: the boxes passed are short of nothing. Assumes nothing.
+-- `partners::at_boxes` meets its contract: the boxes passed are short of nothing. Assumes nothing.
 use Prim.Native.Nat.{_-_}
 use Rattle.definitions.specs.Estimate.{estimateOf}
 use Rattle.definitions.proofs.Loops.{Passed}
-use Rattle.shortages.specs.Partners.{ofBox}
-use Rattle.shortages.proofs.Partners.{partners}
-use Rattle.shortages.proofs.at_boxes.Statement.{statement}
-use Rattle.shortages.proofs.at_boxes.Tie as tie
+use Rattle.partners.specs.Partners.{ofBox}
+use Rattle.partners.proofs.Partners.{partners}
+use Rattle.partners.proofs.at_boxes.Statement.{statement}
+use Rattle.partners.proofs.at_boxes.Tie as tie
 
 abbrev Inv-loop : tie.InvT-loop
 Inv-loop estimate boxes b x q k₀ k = Passed boxes (ofBox (estimateOf estimate) b x q) k

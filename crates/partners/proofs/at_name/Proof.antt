@@ -1,7 +1,7 @@
--- `shortages::at_name` meets its contract: what is asked for where the types meet. Assumes nothing.
-use Rattle.shortages.proofs.Partners.{partners}
-use Rattle.shortages.proofs.at_name.Statement.{statement}
-use Rattle.shortages.proofs.at_name.Tie as tie
+-- `partners::at_name` meets its contract: what is asked for where the types meet. Assumes nothing.
+use Rattle.partners.proofs.Partners.{partners}
+use Rattle.partners.proofs.at_name.Statement.{statement}
+use Rattle.partners.proofs.at_name.Tie as tie
 
 eps-requires : tie.Need-eps-requires
 eps-requires c κs = search partners

@@ -1,5 +1,5 @@
--- Laws of the walks: a name, a box and the boxes of clause 6, and each clause by its walk. Assumes nothing.
-use mathlib.Core.Path.{_≡_, refl, sym, ap, ap₂, _∙_}
+-- Laws of the walk of clause 6: a name, a box, the boxes, and the clause. Assumes nothing.
+use mathlib.Core.Path.{_≡_, refl, sym, ap, _∙_}
 use mathlib.Core.Bool.{Bool, true, false}
 use mathlib.Core.Option.{Option, none}
 use Prim.Native.Nat.{ℕ, _^_, _<_}
@@ -8,13 +8,12 @@ use Rattle.definitions.specs.Bounded.{_and_, _isnt_, when, firstBelow}
 use Rattle.definitions.specs.Sets.{has, firstShort, missing, meets}
 use Rattle.definitions.specs.Model.{Line}
 use Rattle.definitions.specs.Estimate.{Estimate}
-use Rattle.definitions.specs.Clauses.{clause4, clause5, clause6}
-use Rattle.definitions.proofs.Bounded.{isnt-iff, true-of, of-true, false-of, first-cong}
+use Rattle.definitions.specs.Clauses.{clause6}
+use Rattle.definitions.proofs.Bounded.{isnt-iff, true-of, false-of, first-cong}
 use Rattle.definitions.proofs.Loops.{passed-start, passed-turn, passed-end}
-use Rattle.sets.proofs.Walk.{walk-less}
-use Rattle.subsets.proofs.Walk.{ShortLeft, short-start, short-turn, short-stop, short-end, yes-none, lacks-of}
-use Rattle.clauses.proofs.Members.{left-62, left-64, missing-as, names-rho, names-shown, rho-names, box-62, box-512, box-there, names-62, second-62}
-use Rattle.shortages.specs.Partners.{fitting, ofBox, ofBoxes, MetWhere}
+use Rattle.subsets.proofs.Walk.{ShortLeft, short-start, yes-none, lacks-of}
+use Rattle.clauses.proofs.Members.{shorts, names-shown, rho-names, box-62, names-62, second-62, met-yes}
+use Rattle.partners.specs.Partners.{fitting, ofBox, ofBoxes}
 
 -- ---- one name of another box, and its shown names
 
@@ -47,19 +46,7 @@ pub boxes-as : (e : Estimate) (boxes b q a x : ℕ) (r : Option ℕ) → x ≡ e
 unfolding ofBoxes
 boxes-as e boxes b q a x r ex er = er ∙ ap (λ (z : ℕ). firstBelow boxes (ofBox e b z q)) ex
 
--- ---- each clause, by one test, or by its walk
-
-pub met-yes : (t r : Bool) (o : Option ℕ) → MetWhere t o → r ≡ t → r ≡ true → none ≡ o
-met-yes t r o m e h = sym (m .met (of-true (sym e ∙ h)))
-
-module _ (e : Estimate) (b : ℕ) (l : Line) (s q : ℕ) (r : Option ℕ) (es : s ≡ e .rho (l .name1)) (eq : q ≡ e .rho (l .name2)) where
-  pub four-is : r ≡ firstShort s (λ a. missing q (e .kap b a)) → r ≡ clause4 e b l
-  unfolding clause4
-  four-is er = er ∙ ap₂ (λ (x y : ℕ). firstShort x (λ a. missing y (e .kap b a))) es eq
-
-  pub five-is : r ≡ firstShort s (λ a. missing (e .kap b a) q) → r ≡ clause5 e b l
-  unfolding clause5
-  five-is er = er ∙ ap₂ (λ (x y : ℕ). firstShort x (λ a. missing (e .kap b a) y)) es eq
+-- ---- the clause, by its walk
 
 -- the first one short of the members that two sets share
 short-both : (s y d : ℕ) (f : ℕ → Option ℕ) → ((m : ℕ) → has d m ≡ (has s m and has y m)) → firstShort d f ≡ firstShort s (λ a. when (has y a) (f a))
@@ -79,8 +66,6 @@ six-is e boxes b l p y d q r ep ey both eq er =
     er ∙ short-both p y d (ofBoxes e boxes b q) both
     ∙ (λ i. firstShort (ep i) (λ a. when (has (ey i) a) (ofBoxes e boxes b (eq i) a)))
 
-pub ruleset loops = (needs, walk-less, left-62, left-64, short-start, short-turn, short-stop, short-end, missing-as)
+pub ruleset partners = (shorts, fits, unfit, own-box, other-box, shown-start, names-shown, yes-none, lacks-of, passed-start, passed-turn, passed-end, boxes-as, box-62)
 
-pub ruleset partners = (loops, fits, unfit, own-box, other-box, shown-start, names-shown, yes-none, lacks-of, passed-start, passed-turn, passed-end, boxes-as, box-62)
-
-pub ruleset found = (needs, met-yes, box-512, box-there, second-62, names-62, names-rho, rho-names, four-is, five-is, six-is)
+pub ruleset found = (needs, met-yes, second-62, names-62, rho-names, six-is)

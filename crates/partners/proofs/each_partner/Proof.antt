@@ -1,10 +1,10 @@
--- `shortages::each_partner` meets its contract: the members left give the answer. Assumes nothing.
+-- `partners::each_partner` meets its contract: the members left give the answer. Assumes nothing.
 use Rattle.definitions.specs.Estimate.{estimateOf}
 use Rattle.subsets.proofs.Walk.{ShortLeft}
-use Rattle.shortages.specs.Partners.{ofBoxes}
-use Rattle.shortages.proofs.Partners.{partners}
-use Rattle.shortages.proofs.each_partner.Statement.{statement}
-use Rattle.shortages.proofs.each_partner.Tie as tie
+use Rattle.partners.specs.Partners.{ofBoxes}
+use Rattle.partners.proofs.Partners.{partners}
+use Rattle.partners.proofs.each_partner.Statement.{statement}
+use Rattle.partners.proofs.each_partner.Tie as tie
 
 abbrev Inv-loop : tie.InvT-loop
 Inv-loop estimate boxes b s q left₀ left = ShortLeft (ofBoxes (estimateOf estimate) boxes b q) s left

@@ -1,9 +1,6 @@
--- The parts of clause 6, from the inside; and a clause that a test may show met. Assumes nothing.
-use mathlib.Core.Path.{_≡_}
-use mathlib.Core.Bool.{Bool}
-use mathlib.Core.Option.{Option, none}
+-- The parts of clause 6, from the inside. Assumes nothing.
+use mathlib.Core.Option.{Option}
 use Prim.Native.Nat.{ℕ}
-use lib.Dec.{T}
 use Rattle.definitions.specs.Bounded.{_isnt_, when, firstBelow}
 use Rattle.definitions.specs.Sets.{firstShort, missing, meets}
 use Rattle.definitions.specs.Estimate.{Estimate}
@@ -20,7 +17,3 @@ module _ (e : Estimate) where
   -- for each box k, with the type of name a of box b
   unfoldable pub ofBoxes : ℕ → ℕ → ℕ → ℕ → Option ℕ
   ofBoxes boxes b q a = firstBelow boxes (ofBox b (e .eps b a) q)
-
--- where the test passes no name is missing
-pub record MetWhere (t : Bool) (o : Option ℕ) : Type 0 where
-  pub met : T t → o ≡ none
