@@ -88,7 +88,11 @@ fn first<'a>(asked: impl IntoIterator<Item = &'a Asked>) -> Option<NameNo> {
 }
 
 /// The name that is missing, found among all sets that are asked for; and at which of [`STANDINGS`] another order gives another name.
-pub fn standing(model: &Model, estimate: &Estimate, broken: Broken) -> (Option<NameNo>, Vec<usize>) {
+pub fn standing(
+    model: &Model,
+    estimate: &Estimate,
+    broken: Broken,
+) -> (Option<NameNo>, Vec<usize>) {
     let asked = asked(model, estimate, broken);
     let name = first(&asked);
     let mut short = asked.iter().filter(|one| !one.lacking.is_empty());
@@ -128,7 +132,8 @@ mod tests {
         };
         let one = |e: &mut Estimate| e.rho[2] = NameSet::one(NameNo(4));
         assert_eq!(stands(&one), ("clause 5 0 1 1".to_string(), vec![]));
-        let two = |e: &mut Estimate| (e.rho[2], e.boxes[0].kap[0]) = (NameSet::EMPTY, NameSet(0b10_0010));
+        let two =
+            |e: &mut Estimate| (e.rho[2], e.boxes[0].kap[0]) = (NameSet::EMPTY, NameSet(0b10_0010));
         assert_eq!(stands(&two), ("clause 5 0 1 1".to_string(), vec![0]));
         let wall = |e: &mut Estimate| (e.boxes[1].shown, e.boxes[1].eps[3]) = Default::default();
         assert_eq!(stands(&wall), ("clause 2 1 0 3".to_string(), vec![1, 2]));

@@ -10,13 +10,13 @@ use crate::images;
 use crate::report::{Part, Report};
 
 const SHORT: Part = Part { name: "short estimates", number: 7 };
-/// How many models are tried, a case, and how many estimates of each.
-const MODELS: u64 = 1;
+/// How many estimates of a model are tried.
 const ESTIMATES: usize = 4;
 
 fn without_some(rng: &mut Rng, set: NameSet, most: usize) -> NameSet {
     let members: Vec<NameNo> = set.into_iter().collect();
-    (0..rng.between(1, most)).fold(set, |left, _| rng.pick(&members).map_or(left, |name| left.without(name)))
+    (0..rng.between(1, most))
+        .fold(set, |left, _| rng.pick(&members).map_or(left, |name| left.without(name)))
 }
 
 fn with_some(rng: &mut Rng, set: NameSet, names: usize, most: usize) -> NameSet {
@@ -76,7 +76,7 @@ fn sent_by_others(rng: &mut Rng, model: &Model, estimate: &mut Estimate) {
 }
 
 pub fn compare(report: &mut Report) {
-    for number in 0..MODELS * report.plan.cases {
+    for number in 0..report.plan.cases {
         let mut rng = report.begin(SHORT, number);
         let size = Size::lively(&mut rng);
         let draft = random::draft(&mut rng, size);
