@@ -356,7 +356,10 @@ module _ (e : Estimate) where
   names : Names e
   unfolding clause1 clause3 clause4 clause5 clause8 clause9
   names = record {
-    one = λ kinds n x z. absent-some (e .rho n) n x (when-some (kindOfName kinds n is 0) (absent (e .rho n) n) x z .1);
+    one = λ kinds n x z.
+        let w = when-some (kindOfName kinds n is 0) (absent (e .rho n) n) x z in
+        let y = absent-some (e .rho n) n x (w .1) in
+        (y .0, is-iff (kindOfName kinds n) 0 .0 (w .0), y .1);
     two = clause-2;
     three = λ l x z. absent-some (e .rho (l .name1)) (l .name1) x z;
     four = λ b l x z.

@@ -164,7 +164,7 @@ pub record Lowest (a c x : ℕ) : Type 0 where
   pub lacking : T (has c x) → ⊥
   pub lower : (y : ℕ) → y < x → T (has a y) → T (has c y)
 
--- at some member of s x is what is missing, and at every lower member nothing is
+-- a name is missing at a member of s, and none is at any lower member
 pub record FirstAt (s : ℕ) (Missing : ℕ → Type 0) (Met : ℕ → Type 0) : Type 0 where
   pub member : ℕ
   pub name : member < 64
@@ -201,7 +201,7 @@ module _ (e : Estimate) where
 
   -- each clause, where it gives the name x
   pub record Names : Type 0 where
-    pub one : (kinds : List ℕ) (n x : ℕ) → clause1 e kinds n ≡ some x → (x ≡ n) × (T (has (e .rho n) n) → ⊥)
+    pub one : (kinds : List ℕ) (n x : ℕ) → clause1 e kinds n ≡ some x → (x ≡ n) × (kindOfName kinds n ≡ 0) × (T (has (e .rho n) n) → ⊥)
     pub two : (b : ℕ) (s : Site) (x : ℕ) → clause2 e b s ≡ some x
         → Then ((x ≡ s .subject) × (s .flag ≡ 0) × (T (has (e .shown b) (s .subject)) → ⊥)) (s .flag ≡ 0 → T (has (e .shown b) (s .subject)))
         (Then ((x ≡ s .subject) × (s .flag ≢ 0) × (T (has (e .hidden b) (s .subject)) → ⊥)) (s .flag ≢ 0 → T (has (e .hidden b) (s .subject)))

@@ -10,13 +10,12 @@ use Rattle.definitions.specs.Bounded.{_and_, _or_}
 use Rattle.definitions.specs.Sets.{has, absent, missing, within}
 use Rattle.definitions.specs.Estimate.{Estimate, estimateOf}
 use Rattle.definitions.proofs.Bounded.{and-iff, true-of, of-true}
-use Rattle.definitions.proofs.Loops.{fails, holds}
 use lib.ListN.{length}
 use Rattle.records.specs.declared.Line.{Line}
 use Rattle.records.specs.Records.{lineIn}
 use Rattle.sets.specs.Lowest.{lowestOf}
 use Rattle.sets.specs.Names.{NamesOnly}
-use Rattle.sets.proofs.Walk.{Left, left-name, lowest-below, walk-less, each-start, each-turn, each-stop, each-end}
+use Rattle.sets.proofs.Walk.{Left, left-name, lowest-below, walk-less}
 use Rattle.subsets.proofs.Walk.{short-start, short-turn, short-stop, short-end}
 use Rattle.clauses.specs.Known.{BoxOfNames, EstimateOfNames, LineOfNames, MetWhere}
 
@@ -32,12 +31,8 @@ UnionOf v w u = (m : ℕ) → has v m ≡ (has w m or has u m)
 
 -- ---- a test on what called functions answered
 
-module _ (x y u v : ℕ) (r : Bool) where
-  pub has-as : r ≡ has x y → x ≡ u → r ≡ has u y
-  has-as e f = e ∙ ap (λ (z : ℕ). has z y) f
-
-  pub within-as : r ≡ within x y → x ≡ u → y ≡ v → r ≡ within u v
-  within-as e f g = e ∙ ap₂ within f g
+pub within-as : (x y u v : ℕ) (r : Bool) → r ≡ within x y → x ≡ u → y ≡ v → r ≡ within u v
+within-as x y u v r e f g = e ∙ ap₂ within f g
 
 module _ (x y u v : ℕ) (r : Option ℕ) where
   pub absent-as : r ≡ absent x y → x ≡ u → r ≡ absent u y
@@ -87,6 +82,6 @@ box-512 image b f = omega (arith, f .there)
 pub box-1024 : (image : List ℕ) (b : ℕ) → BoxOfNames image b → 512 * (2 + 2 * b) ≤ length image
 box-1024 image b f = omega (arith, f .there)
 
-pub ruleset walks = (needs, fails, holds, walk-less, left-62, left-64, each-start, each-turn, each-stop, each-end, has-as, within-as, names-rho)
+pub ruleset gathered = (needs, within-as)
 
 pub ruleset shorts = (needs, walk-less, left-62, left-64, short-start, short-turn, short-stop, short-end, absent-as, missing-as, names-rho)

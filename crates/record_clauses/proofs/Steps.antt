@@ -32,7 +32,7 @@ use Rattle.record_clauses.specs.declared.Broken.{Broken}
 use Rattle.record_clauses.specs.declared.Found.{Found}
 use Rattle.record_clauses.specs.declared.Found.the-variants.{Nothing, First}
 use Rattle.record_clauses.specs.Found.{brokenIn, foundIn}
-use Rattle.record_clauses.specs.Known.{NamesFound, Decides, LineFound}
+use Rattle.record_clauses.specs.Known.{NamesFound, ShowsMet, LineFound}
 
 -- ---- one after another
 
@@ -178,7 +178,7 @@ arm-none e boxes b i l f3 f4 f5 f6 f7 f8 =
 -- ---- what is gathered for a line may show clauses 4, 5 and 6 at it
 
 module _ (e : Estimate) (boxes b : ℕ) (l : paper.Line) (g : Gathered) where
-  pub gathered-4 : (s : ℕ) → l .op ≡ 4 → s ≡ e .rho (l .name1) → GatheredOf e boxes b g → g .out ≡ s → Decides e boxes b l g
+  pub gathered-4 : (s : ℕ) → l .op ≡ 4 → s ≡ e .rho (l .name1) → GatheredOf e boxes b g → g .out ≡ s → ShowsMet e boxes b l g
   gathered-4 s o es h eo = record {
     four = λ _. record {
       met = λ t. four-met e b l (of-true (sym (h .most .same (e .rho (l .name2)) ∙ ap (λ (x : ℕ). maySend e b x (e .rho (l .name2))) (eo ∙ es)) ∙ true-of (within (e .rho (l .name2)) (g .most)) t));
@@ -188,7 +188,7 @@ module _ (e : Estimate) (boxes b : ℕ) (l : paper.Line) (g : Gathered) where
   }
 
   pub gathered-5 : (s : ℕ) (f : Gathered) → l .op ≡ 5 → s ≡ e .rho (l .name1) → GatheredOf e boxes b f → f .on ≡ s → GatheredOf e boxes b g → g .on ≡ f .on
-      → Least (g .asks) (sharedOn e boxes b s) → Decides e boxes b l g
+      → Least (g .asks) (sharedOn e boxes b s) → ShowsMet e boxes b l g
   gathered-5 s f o es k eo h ef a = record {
     four = λ z. absurd (omega (arith, o, z));
     five = λ _. record {
@@ -199,10 +199,10 @@ module _ (e : Estimate) (boxes b : ℕ) (l : paper.Line) (g : Gathered) where
     };
   }
 
-  pub gathered-other : (l .op ≡ 4 → ⊥) → (l .op ≡ 5 → ⊥) → Decides e boxes b l g
+  pub gathered-other : (l .op ≡ 4 → ⊥) → (l .op ≡ 5 → ⊥) → ShowsMet e boxes b l g
   gathered-other f4 f5 = record { four = λ z. absurd (f4 z); five = λ z. absurd (f5 z); six = λ z. absurd (f5 z) }
 
-  module _ (d : Decides e boxes b l g) where
+  module _ (d : ShowsMet e boxes b l g) where
     pub may-4 : l .op ≡ 4 → MetWhere (within (e .rho (l .name2)) (g .most)) (cl.clause4 e b l)
     may-4 = d .four
 

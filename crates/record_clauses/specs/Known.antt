@@ -16,7 +16,7 @@ pub record NamesFound (e : Estimate) (free : ℕ) (r : Option Broken) : Type 0 w
   pub same : (m : Model) → length (m .kinds) ≤ 64 → ((n : ℕ) → n < 64 → has free n ≡ isFree (m .kinds) n) → r ≡ firstBelow (length (m .kinds)) (nameBroken m e)
 
 -- what is gathered may show that clauses 4, 5 and 6 are met at line l of box b
-pub record Decides (e : Estimate) (boxes b : ℕ) (l : Line) (g : Gathered) : Type 0 where
+pub record ShowsMet (e : Estimate) (boxes b : ℕ) (l : Line) (g : Gathered) : Type 0 where
   pub four : l .op ≡ output → MetWhere (within (e .rho (l .name2)) (g .most)) (clause4 e b l)
   pub five : l .op ≡ input → MetWhere (within (g .all) (e .rho (l .name2))) (clause5 e b l)
   pub six : l .op ≡ input → MetWhere (within (g .asks) (e .rho (l .name2))) (clause6 e boxes b l)

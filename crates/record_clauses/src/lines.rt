@@ -10,7 +10,7 @@ ghost use Rattle.clauses.specs.Known.{BoxOfNames, EstimateOfNames, LineOfNames}
 ghost use Rattle.links.specs.Types.{TypeTable};
 ghost use Rattle.sharing.specs.Shared.{Sends, GatheredOf};
 ghost use Rattle.record_clauses.specs.Found.{foundIn};
-ghost use Rattle.record_clauses.specs.Known.{Decides, LineFound};
+ghost use Rattle.record_clauses.specs.Known.{ShowsMet, LineFound};
 use crate::Broken;
 use crate::Found;
 use records::Line;
@@ -54,7 +54,7 @@ pub fn gather(
 ) -> Gathered
     requires tables { ⌜ EstimateOfNames (now estimate) boxes × Sends (now estimate) boxes (now sends) × TypeTable (estimateOf (now estimate)) boxes (now types) ⌝ }
     requires line { ⌜ (b < boxes) × LineOfNames (lineIn l) × GatheredOf (estimateOf (now estimate)) boxes b g ⌝ }
-    ensures { λ r. ⌜ GatheredOf (estimateOf (now (estimate .entry))) boxes b r × Decides (estimateOf (now (estimate .entry))) boxes b (lineIn l) r ⌝ }
+    ensures { λ r. ⌜ GatheredOf (estimateOf (now (estimate .entry))) boxes b r × ShowsMet (estimateOf (now (estimate .entry))) boxes b (lineIn l) r ⌝ }
 {
     if l.op == 4 {
         sharing::for_outputs(estimate, boxes, b, estimate::rho(estimate, l.name1), g)
@@ -77,7 +77,7 @@ pub fn by_operation(
     l: Line,
 ) -> Found
     requires tables { ⌜ EstimateOfNames (now estimate) boxes × BoxOfNames (now estimate) b × (b < boxes) ⌝ }
-    requires line { ⌜ LineOfNames (lineIn l) × Decides (estimateOf (now estimate)) boxes b (lineIn l) g ⌝ }
+    requires line { ⌜ LineOfNames (lineIn l) × ShowsMet (estimateOf (now estimate)) boxes b (lineIn l) g ⌝ }
     ensures { λ r. ⌜ LineFound (estimateOf (now (estimate .entry))) boxes b i (lineIn l) (foundIn r) ⌝ }
 {
     let op = l.op;

@@ -6,6 +6,7 @@ ghost use Rattle.definitions.specs.Sets as names;
 ghost use Rattle.subsets.specs.Within.{withinIn};
 use sets::NameNo;
 
+// Yes, or the name that is missing.
 pub enum Within {
     Yes,
     Lacks(NameNo),
