@@ -1,3 +1,4 @@
+#![tactic(auto)]
 // The checker. No call asks anything of its arguments: any bytes, any box.
 ghost use Rattle.std.specs.Prelude.{◌≡◌};
 ghost use Rattle.definitions.specs.Clauses as clauses;
@@ -11,7 +12,7 @@ use refusals::Refusal;
 mod answers;
 pub mod parts;
 
-#[derive(Drop)]
+#[derive(Clone, Copy)]
 pub enum Verdict {
     Accepted,
     Breaks(Broken),
@@ -20,7 +21,7 @@ pub enum Verdict {
 }
 
 // The question's answer: the checker's where that is not accepted; no such box; the box is shut off, or not.
-#[derive(Drop)]
+#[derive(Clone, Copy)]
 pub enum Reply {
     NotAccepted(Verdict),
     Nobody,

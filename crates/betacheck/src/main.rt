@@ -1,3 +1,4 @@
+#![tactic(auto)]
 // The checking program: reads model.blk and estimate.blk in the folder it is run in, and writes one line.
 fn main() {
     if os::arg_count() > 1 {

@@ -1,3 +1,4 @@
+#![tactic(auto)]
 // Refusals 1 to 5 of one block: it is there, its check matches, its heading, its count, and nothing past its records.
 ghost use Rattle.std.specs.Prelude.{◌≡◌, ◌+◌, ◌*◌, ◌%◌, ◌<◌, ◌≤◌, length};
 ghost use Rattle.definitions.specs.Bounded.{◌and◌, ◌upto◌};

@@ -1,3 +1,4 @@
+#![tactic(auto)]
 // Refusals 1 to 5: the length, and the blocks in the order that the paper asks for.
 ghost use Rattle.std.specs.Prelude.{◌≡◌, ◌+◌, ◌%◌, ◌<◌, ◌≤◌, length};
 ghost use Rattle.definitions.specs.Words.{block_of, count_of};

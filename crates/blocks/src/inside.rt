@@ -8,7 +8,7 @@ ghost use Rattle.definitions.specs.ReadModel.{clear_from};
 ghost use Rattle.blocks.specs.Answers.{heading_of};
 
 // Bytes 0 to 7 of a block; spare is bytes 6 and 7.
-#[derive(Drop)]
+#[derive(Clone, Copy)]
 pub struct Heading {
     pub number: usize,
     pub kind: usize,

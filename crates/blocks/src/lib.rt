@@ -1,3 +1,4 @@
+#![tactic(auto)]
 // Blocks of 512 bytes: headings, data words and the check. The calls of this file take any image and any number, and say so where the image
 // has no such block. Those of `inside` require the block.
 ghost use Rattle.std.specs.Prelude.{◌≡◌, ◌+◌, ◌*◌, length};
@@ -9,7 +10,7 @@ pub mod inside;
 mod sums;
 
 // A number of a block, where the image has the block whole.
-#[derive(Drop)]
+#[derive(Clone, Copy)]
 pub enum Number {
     NoBlock,
     Is(u64),

@@ -1,3 +1,4 @@
+#![tactic(auto)]
 // Tests joined with no branch.
 ghost use Rattle.std.specs.Prelude.{◌≡◌};
 ghost use Rattle.definitions.specs.Bounded.{◌and◌, ◌or◌, ◌implies◌};

@@ -1,3 +1,4 @@
+#![tactic(auto)]
 // Rule 9 in one box: the names bound strictly above each line, and the first line whose names do not reach it.
 ghost use Rattle.std.specs.Prelude.{◌≡◌, length};
 ghost use Rattle.definitions.specs.Image.{model_of};

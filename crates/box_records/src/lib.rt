@@ -1,3 +1,4 @@
+#![tactic(auto)]
 // The state rules of one box record, by tables: the limits of the held names in order, and the names bound strictly above each line.
 ghost use Rattle.std.specs.Prelude.{◌≡◌, ◌<◌, ◌≤◌, length};
 ghost use Rattle.definitions.specs.Limits.{slot_limit};

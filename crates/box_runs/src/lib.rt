@@ -1,3 +1,4 @@
+#![tactic(auto)]
 // Runs over the records of one box: what its sites and lines say together, and its first record that does not fit.
 ghost use Rattle.std.specs.Prelude.{◌≡◌, ◌+◌, ◌*◌, ◌<◌, ◌≤◌, length};
 ghost use Rattle.definitions.specs.Words.{block_of};

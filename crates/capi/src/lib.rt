@@ -1,3 +1,4 @@
+#![tactic(auto)]
 // The calls that C and Rust link: numbers and slices in, one number out.
 ghost use Rattle.std.specs.Prelude.{◌≡◌, length};
 ghost use Rattle.definitions.specs.Check.{check_of};

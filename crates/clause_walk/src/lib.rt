@@ -1,3 +1,4 @@
+#![tactic(auto)]
 // One walk over a box's lines that may only show that none of them breaks a clause: each clause is tested for what was gathered of the lines.
 // It names no line.
 ghost use Rattle.std.specs.Prelude.{◌≡◌, ◌<◌, ◌≤◌, length, get_or};
@@ -77,7 +78,7 @@ fn outputs_pass(estimate: &[u8], boxes: usize, b: usize, on: u64, sent: &[u64; 6
 }
 
 // Whether a line passes, and what clauses 5 and 6 ask for the sets that it was gathered for.
-#[derive(Drop)]
+#[derive(Clone, Copy)]
 pub struct Tested {
     pub ok: bool,
     pub gathered: Gathered,

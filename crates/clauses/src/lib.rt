@@ -1,3 +1,4 @@
+#![tactic(auto)]
 // The clauses, each at one name, site or line, over an estimate that has been read: met, or the name that is missing. Clauses 4, 5 and 6 are
 // tested here by what they ask for the line's channel.
 ghost use Rattle.std.specs.Prelude.{◌≡◌, ◌+◌, ◌*◌, ◌<◌, ◌≤◌, length};

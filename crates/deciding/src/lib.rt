@@ -1,3 +1,4 @@
+#![tactic(auto)]
 // Whether a move is allowed: 0, or 12 to 20. Reads only.
 ghost use Rattle.std.specs.Prelude.{◌≡◌, ◌<◌, ◌≤◌, length};
 ghost use Rattle.std.proofs.Math.Option.{none};

@@ -1,3 +1,4 @@
+#![tactic(auto)]
 // An estimate's image: the first refusal against the counts of a model, and the sets where they stand. `read` takes any bytes and any
 // counts. The sets are one word each, read in place; they require the blocks, so that who has read an image tests its length once.
 ghost use Rattle.std.specs.Prelude.{◌≡◌, ◌+◌, ◌*◌, ◌<◌, ◌≤◌, length};

@@ -1,3 +1,4 @@
+#![tactic(auto)]
 // The first broken clause of an estimate: by name, then box by box its sites and its lines.
 ghost use Rattle.std.specs.Prelude.{◌≡◌};
 ghost use Rattle.definitions.specs.Image.{model_of};

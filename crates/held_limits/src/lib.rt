@@ -1,3 +1,4 @@
+#![tactic(auto)]
 // The held names that are in order, by two tables made once for a state: for each name's number the least and the largest.
 ghost use Rattle.std.specs.Prelude.{◌≡◌, ◌*◌, ◌<◌, ◌≤◌, length};
 ghost use Rattle.definitions.specs.Bounded.{all_below};

@@ -1,3 +1,4 @@
+#![tactic(auto)]
 // Where the parts of a model stand, in an image whose blocks are right; and the box that binds a name.
 ghost use Rattle.std.specs.Prelude.{◌≡◌, ◌%◌, ◌≤◌, length};
 ghost use Rattle.std.proofs.Math.Option.{none};
@@ -12,7 +13,7 @@ use sets::NameNo;
 
 // Where a model's parts stand. For box b: the block of its sites, how many sites and lines it has, and the names that its lines bind.
 // Then the listed names, and those of each kind.
-#[derive(Drop)]
+#[derive(Clone, Copy)]
 pub struct Layout {
     pub names: usize,
     pub boxes: usize,
@@ -28,7 +29,7 @@ pub struct Layout {
 }
 
 // The listed names, and those of each kind.
-#[derive(Drop)]
+#[derive(Clone, Copy)]
 pub struct Kinds {
     pub listed: u64,
     pub free: u64,
@@ -84,7 +85,7 @@ fn line_total(image: &[u8], k: usize) -> usize
 }
 
 // A box: how many sites and lines it has, and the block after it.
-#[derive(Drop)]
+#[derive(Clone, Copy)]
 pub struct BoxLayout {
     pub sites: usize,
     pub lines: usize,
@@ -171,7 +172,7 @@ pub fn layout_of(image: &[u8]) -> Layout
 }
 
 // The box that binds a name.
-#[derive(Drop)]
+#[derive(Clone, Copy)]
 pub enum Owner {
     Nobody,
     Of(usize),

@@ -1,3 +1,4 @@
+#![tactic(auto)]
 // What the lines of a box name, gathered in one walk with no branch on the operation: the first names of lines by operation, what outputs send
 // by channel, and the inputs and exposes in a list.
 ghost use Rattle.std.specs.Prelude.{◌≡◌, ◌<◌, ◌≤◌, length, replicate};

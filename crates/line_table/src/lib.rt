@@ -1,3 +1,4 @@
+#![tactic(auto)]
 // The tests of a line by tables: by operation, which digits, names and children a line may have, and what it uses and binds.
 ghost use Rattle.std.specs.Prelude.{◌≡◌, ◌/◌, ◌%◌, ◌^◌, ◌<◌, length};
 ghost use Rattle.line_table.specs.Table.{op_table, row};

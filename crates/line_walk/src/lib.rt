@@ -1,3 +1,4 @@
+#![tactic(auto)]
 // One walk over a box's lines that may only say "all right": a line by itself, in its tree, and where its names reach. Wrong digits are joined.
 ghost use Rattle.std.specs.Prelude.{◌≡◌, ◌+◌, ◌*◌, ◌/◌, ◌%◌, ◌<◌, ◌≤◌, length, get_or, set, replicate};
 ghost use Rattle.records.specs.Places.{LinesThere};
@@ -62,7 +63,7 @@ fn step(
 }
 
 // Where a line stands, and how many lines its block has from it on, with it.
-#[derive(Drop)]
+#[derive(Clone, Copy)]
 pub struct Place {
     pub at: usize,
     pub left: usize,
@@ -86,7 +87,7 @@ fn next(p: Place) -> Place
     }
 }
 
-#[derive(Drop)]
+#[derive(Clone, Copy)]
 pub struct Walked {
     pub bad: u64,
     pub bound: u64,

@@ -1,3 +1,4 @@
+#![tactic(auto)]
 // Boxes that share a type name, and boxes that are shut off: the union of a box's types on its shown names is tested against another's.
 ghost use Rattle.std.specs.Prelude.{◌≡◌, not, ◌+◌, ◌*◌, ◌<◌, ◌≤◌, length};
 ghost use Rattle.definitions.specs.Bounded.{◌implies◌, ◌isnt◌};

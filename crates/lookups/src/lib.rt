@@ -1,3 +1,4 @@
+#![tactic(auto)]
 // What a thread of a box stands at, and what its names stand for; the site with a held name; types that share one. The image and the
 // record are read where they stand.
 ghost use Rattle.std.specs.Prelude.{◌≡◌, ◌<◌, ◌≤◌, length};

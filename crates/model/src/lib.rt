@@ -1,3 +1,4 @@
+#![tactic(auto)]
 // A model image, read where it stands: its layout, or the refusal with its number and two places; and the box that binds a name.
 ghost use Rattle.std.specs.Prelude.{◌≡◌, ◌%◌, length};
 ghost use Rattle.std.proofs.Math.Option.{none};
@@ -10,7 +11,7 @@ pub use layouts::{Layout, Owner, owner_of};
 use refusals::Answer;
 
 // The layout stands where the image is not refused.
-#[derive(Drop)]
+#[derive(Clone, Copy)]
 pub struct ReadResult {
     pub answer: Answer,
     pub layout: Layout,
@@ -34,7 +35,7 @@ fn empty_layout() -> Layout {
 }
 
 // The layout stands where all is right.
-#[derive(Drop)]
+#[derive(Clone, Copy)]
 pub struct WalkedLayout {
     pub right: bool,
     pub layout: Layout,

@@ -1,3 +1,4 @@
+#![tactic(auto)]
 // Refusals 6 to 9, each over the whole model, boxes and records ascending.
 ghost use Rattle.std.specs.Prelude.{◌≡◌};
 ghost use Rattle.std.proofs.Math.Option.{none};

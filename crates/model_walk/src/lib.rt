@@ -1,3 +1,4 @@
+#![tactic(auto)]
 // One walk over the records of all boxes of a model that may only say "all right". Wrong digits are joined.
 ghost use Rattle.std.specs.Prelude.{◌≡◌, ◌+◌, ◌*◌, ◌≤◌, length};
 ghost use Rattle.std.proofs.Math.Option.{none};
@@ -32,7 +33,7 @@ fn site_wrong(free: u64, used: u64, w: u64, names: u64) -> u64
     digits | subject | type_wrong(free, w, names)
 }
 
-#[derive(Drop)]
+#[derive(Clone, Copy)]
 pub struct WalkedSites {
     pub bad: u64,
     pub used: u64,
@@ -58,7 +59,7 @@ pub fn walk_sites(image: &[u8], k: usize, n: usize, free: u64, start: u64) -> Wa
 }
 
 // The names that the lines of each box bind stand where all is right.
-#[derive(Drop)]
+#[derive(Clone, Copy)]
 pub struct WalkedBoxes {
     pub right: bool,
     pub bound: [u64; 8],

@@ -1,3 +1,4 @@
+#![tactic(auto)]
 // Answers as one number: a tag, a number and two places; a broken clause with the name that is missing.
 ghost use Rattle.std.specs.Prelude.{◌≡◌};
 ghost use Rattle.refusals.specs.Answers.{answer_in};

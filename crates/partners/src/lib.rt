@@ -1,3 +1,4 @@
+#![tactic(auto)]
 // Clause 6 at a line: one test by what was gathered for its channel; where that says no, the name that is missing, by a walk in the paper's
 // order: names of the channel ascending, then boxes, then their shown names.
 ghost use Rattle.std.specs.Prelude.{◌≡◌, ◌+◌, ◌*◌, ◌<◌, ◌≤◌, length};

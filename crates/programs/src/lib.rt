@@ -1,3 +1,4 @@
+#![tactic(auto)]
 // What the programs share: files read into buffers, numbers and sets written to standard output, and the checker on two files.
 ghost use Rattle.std.specs.Prelude.{◌≡◌, length};
 ghost use Rattle.io.specs.Counts.{IsPrefixLen};

@@ -1,3 +1,4 @@
+#![tactic(auto)]
 // The clauses at one record: what is found at a name, and at a line by its operation.
 use sets::NameNo;
 
@@ -5,7 +6,7 @@ pub mod lines;
 pub mod names;
 
 // A broken clause: its number, its box (0 for clause 1), its record: a name, a site or a line; and the name that is missing.
-#[derive(Drop)]
+#[derive(Clone, Copy)]
 pub struct Broken {
     pub clause: u8,
     pub boxno: usize,
@@ -14,7 +15,7 @@ pub struct Broken {
 }
 
 // The first broken clause, if there is one.
-#[derive(Drop)]
+#[derive(Clone, Copy)]
 pub enum Found {
     Nothing,
     First(Broken),

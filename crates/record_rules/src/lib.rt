@@ -1,3 +1,4 @@
+#![tactic(auto)]
 // A record against the paper's rules: a site (6), a line by itself (7), in its tree (8), and where its names reach (9).
 ghost use Rattle.std.specs.Prelude.{◌≡◌, not};
 ghost use Rattle.definitions.specs.Bounded.{◌and◌, ◌implies◌};

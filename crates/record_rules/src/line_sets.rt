@@ -6,7 +6,7 @@ ghost use Rattle.record_rules.specs.LineSets.{line_is, insert_line, insert_child
 use records::Line;
 
 // A set of the lines 0 to 127: line c is in it where digit c of the two words, low first, is 1.
-#[derive(Drop)]
+#[derive(Clone, Copy)]
 pub struct LineSet {
     pub low: u64,
     pub high: u64,

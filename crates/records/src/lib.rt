@@ -1,3 +1,4 @@
+#![tactic(auto)]
 // What one record of a model image says: a site, a line, the kind of a name, and the names that a line binds and uses.
 use sets::NameNo;
 
@@ -5,7 +6,7 @@ pub mod inside;
 pub mod names;
 
 // A site's record; names is its type.
-#[derive(Drop)]
+#[derive(Clone, Copy)]
 pub struct Site {
     pub subject: NameNo,
     pub flag: u8,
@@ -14,7 +15,7 @@ pub struct Site {
 }
 
 // A line's record; names is its type.
-#[derive(Drop)]
+#[derive(Clone, Copy)]
 pub struct Line {
     pub op: u8,
     pub name1: NameNo,

@@ -1,3 +1,4 @@
+#![tactic(auto)]
 // One move of a model. No call asks anything of its arguments: any bytes, any words, any numbers.
 ghost use Rattle.std.specs.Prelude.{◌≡◌};
 ghost use Rattle.definitions.specs.Calls as calls;

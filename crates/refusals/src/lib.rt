@@ -1,3 +1,4 @@
+#![tactic(auto)]
 // What a reader answers: no refusal, or the first refusal with its number and its two places.
 ghost use Rattle.std.specs.Prelude.{◌≡◌};
 ghost use Rattle.definitions.specs.Bounded.{some_if, or_else};
@@ -5,14 +6,14 @@ ghost use Rattle.definitions.specs.Answer.{refusal};
 ghost use Rattle.refusals.specs.Answers.{answer_in};
 
 // The paper's refusal: its number, and its two places.
-#[derive(Drop)]
+#[derive(Clone, Copy)]
 pub struct Refusal {
     pub number: u8,
     pub place: usize,
     pub second: usize,
 }
 
-#[derive(Drop)]
+#[derive(Clone, Copy)]
 pub enum Answer {
     NoRefusal,
     Refused(Refusal),

@@ -1,3 +1,4 @@
+#![tactic(auto)]
 // The line that the checking program writes for a verdict.
 ghost use Rattle.std.specs.Prelude.{◌++◌, ◌+◌};
 ghost use Rattle.definitions.specs.Program.{three_numbers, four_numbers, verdict_line};

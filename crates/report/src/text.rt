@@ -4,7 +4,7 @@ ghost use Rattle.definitions.specs.Program.{decimal_in};
 ghost use Rattle.report.specs.Text.{text_of, Room, Reads};
 
 // At most 96 bytes, of which the first len are the text.
-#[derive(Drop)]
+#[derive(Clone, Copy)]
 pub struct Text {
     pub bytes: [u8; 96],
     pub len: usize,

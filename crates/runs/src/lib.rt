@@ -1,3 +1,4 @@
+#![tactic(auto)]
 // A run over a lent list of moves: model and state are tested once, then each move is made in turn, refused ones passed over.
 ghost use Rattle.std.specs.Prelude.{◌≡◌, ◌+◌, ◌*◌, ◌<◌, ◌≤◌, length, set};
 ghost use Rattle.definitions.specs.Image.{model_of};
@@ -12,7 +13,7 @@ use refusals::Answer;
 
 // A move: its kind, box, thread, second box and second thread.
 #[repr(C)]
-#[derive(Drop)]
+#[derive(Clone, Copy)]
 pub struct Move {
     pub kind: u32,
     pub boxno: u32,
@@ -22,7 +23,7 @@ pub struct Move {
 }
 
 // The refusal before a first move; where the boxes stand in the image; how many moves are made, none where there is a refusal.
-#[derive(Drop)]
+#[derive(Clone, Copy)]
 pub struct Begun {
     pub answer: Answer,
     pub places: u64,

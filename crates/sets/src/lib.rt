@@ -1,3 +1,4 @@
+#![tactic(auto)]
 // Sets of names: a u64 has name n where its binary digit n is 1. No call asks anything of its arguments.
 ghost use Rattle.std.specs.Prelude.{◌≡◌, ℕ, ◌<◌};
 ghost use Rattle.definitions.specs.Bounded.{◌and◌, ◌or◌, ◌is◌};
@@ -5,7 +6,7 @@ ghost use Rattle.definitions.specs.Sets as names;
 ghost use Rattle.sets.specs.Lowest.{lowest_of, WithoutLowest};
 
 // The paper's "name's number". A held name, a number with a stamp, is another type.
-#[derive(Drop)]
+#[derive(Clone, Copy)]
 pub struct NameNo(pub u8);
 
 // Binary digit n of s is 1: never where n is above 63.

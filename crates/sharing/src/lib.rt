@@ -1,3 +1,4 @@
+#![tactic(auto)]
 // What clauses 4, 5 and 6 ask of a line's second name, gathered into one set for its channel: each of several sets is within a set exactly
 // when their union is, and a set is within each of several exactly when it is within the names that all of them have.
 ghost use Rattle.std.specs.Prelude.{◌≡◌, ◌+◌, ◌*◌, ◌<◌, ◌≤◌, length, get_or};
@@ -182,7 +183,7 @@ fn sent_most(estimate: &[u8], b: usize, s: u64) -> u64
 
 // What clauses 4, 5 and 6 ask of the lines of a box, for the sets that they were last gathered for: most, for outputs on a channel whose
 // rho(p) is out; all, for inputs where it is on; asks, for inputs whose types are.
-#[derive(Drop)]
+#[derive(Clone, Copy)]
 pub struct Gathered {
     pub out: u64,
     pub most: u64,

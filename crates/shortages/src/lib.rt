@@ -1,3 +1,4 @@
+#![tactic(auto)]
 // Clauses 4 and 5 at a line: one test by what was gathered for its channel; where that says no, the name that is missing, by a walk in the
 // paper's order: names of the channel ascending.
 ghost use Rattle.std.specs.Prelude.{◌≡◌, ◌+◌, ◌*◌, ◌≤◌, length};

@@ -1,3 +1,4 @@
+#![tactic(auto)]
 // Starting a model: every word of the lent state is written, or a refusal given and nothing written.
 ghost use Rattle.std.specs.Prelude.{◌≡◌, ◌<◌, length};
 ghost use Rattle.std.proofs.Math.Option.{none};

@@ -1,3 +1,4 @@
+#![tactic(auto)]
 // Held names, and the box records of a state: their words, read where they stand. Each call requires the words that it reads.
 ghost use Rattle.std.specs.Prelude.{◌≡◌, ◌+◌, ◌*◌, ◌<◌, ◌≤◌, length};
 ghost use Rattle.definitions.specs.Bounded.{◌is◌, ◌below◌, ◌upto◌};
@@ -9,7 +10,7 @@ use sets::NameNo;
 pub mod edits;
 
 // The paper's "held name": a name's number with a stamp, and 0 for none. A name's number is another type.
-#[derive(Drop)]
+#[derive(Clone, Copy)]
 pub struct Held(pub u32);
 
 // The largest stamp.

@@ -1,3 +1,4 @@
+#![tactic(auto)]
 // The state rules: whether words are a state, in order, of a model that has been read.
 ghost use Rattle.std.specs.Prelude.{◌≡◌, ◌*◌, ◌≤◌, length};
 ghost use Rattle.std.proofs.Math.Option.{none};

@@ -1,3 +1,4 @@
+#![tactic(auto)]
 // Whether a name is in a set, and whether one set lies within another: yes, or the name that is missing. No call asks anything of its
 // arguments.
 ghost use Rattle.std.specs.Prelude.{◌≡◌};
@@ -8,7 +9,7 @@ ghost use Rattle.subsets.specs.Within.{within_in};
 use sets::NameNo;
 
 // Yes, or the name that is missing.
-#[derive(Drop)]
+#[derive(Clone, Copy)]
 pub enum Within {
     Yes,
     Lacks(NameNo),

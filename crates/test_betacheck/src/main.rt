@@ -1,3 +1,4 @@
+#![tactic(auto)]
 // The checking program on ten pairs of files, 0.model and 0.estimate to 9.model and 9.estimate: a line for each.
 fn one(digit: u8) {
     let model = [digit, b'.', b'm', b'o', b'd', b'e', b'l'];

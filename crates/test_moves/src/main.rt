@@ -1,3 +1,4 @@
+#![tactic(auto)]
 // Makes lists of moves, each from a start, and writes a line for each move: its five numbers and its answer, then for each box its number,
 // its last stamp and its threads, each with its line and what it has bound; then the same for one run over the list, from a second start.
 // The lists for model K are those of the examples. The model limits.blk has one box, !new n.0: 16 threads and a copy; the last two stamps.

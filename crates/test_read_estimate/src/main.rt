@@ -1,3 +1,4 @@
+#![tactic(auto)]
 // Reads six pairs of a model and an estimate, 0.model and 0.estimate to 5.model and 5.estimate, and writes each estimate's sets, or the
 // line of its refusal.
 ghost use Rattle.std.specs.Prelude.{◌+◌, ◌*◌, ◌<◌, ◌≤◌, length};

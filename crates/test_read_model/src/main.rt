@@ -1,3 +1,4 @@
+#![tactic(auto)]
 // Reads the model images of its folder and writes each: its names, boxes, sites and lines, or the line of its refusal.
 ghost use Rattle.std.specs.Prelude.{◌≡◌, ◌<◌};
 ghost use Rattle.std.proofs.Math.Option.{none};

@@ -1,3 +1,4 @@
+#![tactic(auto)]
 // A move in a whole state, made where it is allowed: the core that steps and runs go over. It requires a model that is read and a state
 // that obeys the state rules, and keeps them.
 ghost use Rattle.std.specs.Prelude.{◌≡◌};

@@ -1,3 +1,4 @@
+#![tactic(auto)]
 // Little-endian numbers at a place of a slice. Each call requires the bytes that it reads.
 ghost use Rattle.std.specs.Prelude.{◌≡◌, ◌+◌, ◌*◌, ◌<◌, ◌≤◌, length};
 ghost use Rattle.definitions.specs.Words.{joined, byte_at, word_at};
