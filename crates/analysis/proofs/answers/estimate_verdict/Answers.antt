@@ -1,0 +1,15 @@
+-- `analysis::answers::estimate_verdict` meets its contract. Assumes nothing.
+use Rattle.analysis.proofs.Replies.{verdicts}
+use Rattle.analysis.proofs.answers.estimate_verdict.Goals as goal
+
+pub read-requires : goal.read-requires
+read-requires c = search verdicts
+
+pub enum_known-r : goal.enum_known-r
+enum_known-r c = search verdicts
+
+pub returns-in-NoRefusal : goal.returns-in-NoRefusal
+returns-in-NoRefusal c = search verdicts
+
+pub returns-in-Refused : goal.returns-in-Refused
+returns-in-Refused c = search verdicts

@@ -1,0 +1,24 @@
+-- `block_faults::lines_block` meets its contract. Assumes nothing.
+use Rattle.block_faults.proofs.FaultLaws.{block-faults}
+use Rattle.block_faults.proofs.lines_block.Goals as goal
+
+pub heading_fault-f-requires : goal.heading_fault-f-requires
+heading_fault-f-requires c = search block-faults
+
+pub returns-in-Refused : goal.returns-in-Refused
+returns-in-Refused c = search block-faults
+
+pub heading_of-h-requires : goal.heading_of-h-requires
+heading_of-h-requires c = search block-faults
+
+pub counts_fault-requires : goal.counts_fault-requires
+counts_fault-requires c = search block-faults
+
+pub counts_fault-requires-else-j-eq0 : goal.counts_fault-requires-else-j-eq0
+counts_fault-requires-else-j-eq0 c = search block-faults
+
+pub returns-then-j-eq0 : goal.returns-then-j-eq0
+returns-then-j-eq0 c = search block-faults
+
+pub returns-else-j-eq0 : goal.returns-else-j-eq0
+returns-else-j-eq0 c = search block-faults

@@ -1,0 +1,18 @@
+-- `line_table::bound_names` meets its contract. Assumes nothing.
+use Rattle.line_table.proofs.WordLaws.{line-words}
+use Rattle.line_table.proofs.bound_names.Goals as goal
+
+pub one-requires : goal.one-requires
+one-requires c = search line-words
+
+pub at-requires : goal.at-requires
+at-requires c = search line-words
+
+pub one-requires-2 : goal.one-requires-2
+one-requires-2 c = search line-words
+
+pub at-requires-2 : goal.at-requires-2
+at-requires-2 c = search line-words
+
+pub returns : goal.returns
+returns c = search line-words

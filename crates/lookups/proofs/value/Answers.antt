@@ -1,0 +1,18 @@
+-- `lookups::value` meets its contract. Assumes nothing.
+use Rattle.lookups.proofs.Lookups.{lookups}
+use Rattle.lookups.proofs.value.Goals as goal
+
+pub kind-requires : goal.kind-requires
+kind-requires c = search lookups
+
+pub stamped-requires : goal.stamped-requires
+stamped-requires c = search lookups
+
+pub binding-requires : goal.binding-requires
+binding-requires c = search lookups
+
+pub returns-then-kind-eq0 : goal.returns-then-kind-eq0
+returns-then-kind-eq0 c = search lookups
+
+pub returns-else-kind-eq0 : goal.returns-else-kind-eq0
+returns-else-kind-eq0 c = search lookups

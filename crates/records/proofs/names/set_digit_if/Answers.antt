@@ -1,0 +1,12 @@
+-- `records::names::set_digit_if` meets its contract. Assumes nothing.
+use Rattle.records.proofs.NameSetLaws.{sets-of-names}
+use Rattle.records.proofs.names.set_digit_if.Goals as goal
+
+pub set_digit-requires : goal.set_digit-requires
+set_digit-requires c = search sets-of-names
+
+pub returns-then-yes : goal.returns-then-yes
+returns-then-yes c = search sets-of-names
+
+pub returns-else-yes : goal.returns-else-yes
+returns-else-yes c = search sets-of-names

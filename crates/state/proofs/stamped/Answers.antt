@@ -1,0 +1,18 @@
+-- `state::stamped` meets its contract. Assumes nothing.
+use Rattle.state.proofs.Records.{words}
+use Rattle.state.proofs.stamped.Goals as goal
+
+pub overflow_cast-result : goal.overflow_cast-result
+overflow_cast-result c = search words
+
+pub overflow_add-result : goal.overflow_add-result
+overflow_add-result c = search words
+
+pub overflow_mul-result : goal.overflow_mul-result
+overflow_mul-result c = search words
+
+pub overflow_add-result-2 : goal.overflow_add-result-2
+overflow_add-result-2 c = search words
+
+pub returns : goal.returns
+returns c = search words
