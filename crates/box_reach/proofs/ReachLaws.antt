@@ -239,27 +239,27 @@ module _ (image : List ℕ) (b k n i : ℕ) (x : Line) (up : List ℕ) (free-or-
     (decided : DecidesReach x free-or-unlisted (get_or up i 0) bound t) where
   reach_judged : t ≡ reach_fits (model_of image) b i
   reach_judged =
-      decided.decides (model_of image) b i free (bound_above_lem image b k n h trees i p.above.upto up p.above.handed i (le_refl i) l) p.bound-up (q ∙ line-at image b k n h i l)
+      decided.decides (model_of image) b i free (bound_above_lem image b k n h trees i p.above.upto up p.above.handed i (le_refl i) l) p.bound_up (q ∙ line-at image b k n h i l)
 
   pub reach-turn : (bs here r : ℕ) (new : List ℕ) → not t ≡ false → SetOf bs (binds x) → ((m : ℕ) → has here m ≡ (has bs m or has (get_or up i 0) m))
       → SetAtChildren up x here new → ((m : ℕ) → has r m ≡ (has bound m or has bs m)) → ReachRun image b k n (i + 1) r new
   unfolding bound_before
   reach-turn bs here r new z s g down f = record {
-    records_fit = records_turn 9 n (reach_fits (model_of image)) b i t p.records-fit l reach_judged z;
+    records_fit = records_turn 9 n (reach_fits (model_of image)) b i t p.records_fit l reach_judged z;
     bound_up = record {
       at = λ m j.
           let before = any_below b (λ c. binds_in (box_at (model_of image) c) m) in
           let lines : ℕ → Bool = λ c. binds (line_at (box_at (model_of image) b) c) m in
-          f m ∙ ap₂ ◌or◌ (p.bound-up.at m j) (s.at m j ∙ ap (λ (y : Line). binds y m) (q ∙ line-at image b k n h i l))
+          f m ∙ ap₂ ◌or◌ (p.bound_up.at m j) (s.at m j ∙ ap (λ (y : Line). binds y m) (q ∙ line-at image b k n h i l))
           ∙ or_assoc before (any_below i lines) (lines i) ∙ ap (λ (w : Bool). before or w) (sym (any_more i lines));
     };
     above = above_turn image k n i here bs up new x p.above l h.there q s g down;
   }
 
   pub reach_stop : (o : Option Refusal) → not t ≡ true → o ≡ some_if true (refusal 9 b i) → o ≡ box_misfit 9 n (reach_fits (model_of image)) b
-  reach_stop o z s = records_stop 9 n (reach_fits (model_of image)) b i t p.records-fit l reach_judged o z s
+  reach_stop o z s = records_stop 9 n (reach_fits (model_of image)) b i t p.records_fit l reach_judged o z s
 
 pub reach_end : (image : List ℕ) (b k n i bound : ℕ) (up : List ℕ) → ReachRun image b k n i bound up → n ≤ i → none ≡ box_misfit 9 n (reach_fits (model_of image)) b
-reach_end image b k n i bound up p l = records_end 9 n (reach_fits (model_of image)) b i p.records-fit l
+reach_end image b k n i bound up p l = records_end 9 n (reach_fits (model_of image)) b i p.records_fit l
 
 pub ruleset reach = (rules, line-there, lines_of_box, set_yes, set_past, set_no, set_long, above_long, set_children, above_start, above_turn, above_end, reach-start, reach_long, reach-turn, reach_stop, reach_end)

@@ -127,26 +127,26 @@ site-start image b n used s = record { records_fit = records_start 6 n (site_fit
 module _ (image : List ℕ) (b k n i : ℕ) (s : Site) (free used : ℕ) (t : Bool) (p : SiteRun image b n i used) (h : SitesAt image b k n) (l : i < n)
     (e : s ≡ site_record (block_of image k) i) (few : length (model_of image).kinds ≤ 60) (frees : SetOf free (is_free (model_of image).kinds)) (decided : DecidesSite s free used t) where
   judged : t ≡ site_fits (model_of image) b i
-  judged = decided.decides (model_of image) b i few frees p.used-up (e ∙ site-at image b k n h i l)
+  judged = decided.decides (model_of image) b i few frees p.used_up (e ∙ site-at image b k n h i l)
 
   pub site-turn : (r : ℕ) → not t ≡ false → ((m : ℕ) → m < 64 → has r m ≡ (has used m or s.subject is m)) → SiteRun image b n (i + 1) r
   unfolding used_before
   site-turn r q f = record {
-    records_fit = records_turn 6 n (site_fits (model_of image)) b i t p.records-fit l judged q;
+    records_fit = records_turn 6 n (site_fits (model_of image)) b i t p.records_fit l judged q;
     used_up = record {
       at = λ m g.
           let before = any_below b (λ c. any_below (site_count (box_at (model_of image) c)) (λ j. (site_at (box_at (model_of image) c) j).subject is m)) in
           let here : ℕ → Bool = λ j. (site_at (box_at (model_of image) b) j).subject is m in
-          f m g ∙ ap₂ (λ (x : Bool) (y : Site). x or y.subject is m) (p.used-up.at m g) (e ∙ site-at image b k n h i l)
+          f m g ∙ ap₂ (λ (x : Bool) (y : Site). x or y.subject is m) (p.used_up.at m g) (e ∙ site-at image b k n h i l)
           ∙ or_assoc before (any_below i here) (here i) ∙ ap (λ (x : Bool). before or x) (sym (any_more i here));
     };
   }
 
   pub site_stop : (o : Option Refusal) → not t ≡ true → o ≡ some_if true (refusal 6 b i) → o ≡ box_misfit 6 n (site_fits (model_of image)) b
-  site_stop o q z = records_stop 6 n (site_fits (model_of image)) b i t p.records-fit l judged o q z
+  site_stop o q z = records_stop 6 n (site_fits (model_of image)) b i t p.records_fit l judged o q z
 
 pub site_end : (image : List ℕ) (b n i used : ℕ) → SiteRun image b n i used → n ≤ i → none ≡ box_misfit 6 n (site_fits (model_of image)) b
-site_end image b n i used p l = records_end 6 n (site_fits (model_of image)) b i p.records-fit l
+site_end image b n i used p l = records_end 6 n (site_fits (model_of image)) b i p.records_fit l
 
 -- ---- 7: the lines of a box
 
@@ -194,15 +194,15 @@ module _ (image : List ℕ) (b k n i : ℕ) (x : Line) (seen all : LineSet) (t :
 
   pub tree-turn : (r : LineSet) → not t ≡ false → LineSetOf r (insert_children seen.low seen.high x) → TreeRun image b k n (i + 1) r
   tree-turn r z f = record {
-    records_fit = records_turn 8 n (tree_fit (model_of image)) b i t p.records-fit l tree_judged z;
+    records_fit = records_turn 8 n (tree_fit (model_of image)) b i t p.records_fit l tree_judged z;
     children = child_turn image k i seen r x p.children q f;
   }
 
   pub tree_stop : (o : Option Refusal) → not t ≡ true → o ≡ some_if true (refusal 8 b i) → o ≡ box_misfit 8 n (tree_fit (model_of image)) b
-  tree_stop o z s = records_stop 8 n (tree_fit (model_of image)) b i t p.records-fit l tree_judged o z s
+  tree_stop o z s = records_stop 8 n (tree_fit (model_of image)) b i t p.records_fit l tree_judged o z s
 
 pub tree_end : (image : List ℕ) (b k n i : ℕ) (s : LineSet) → TreeRun image b k n i s → n ≤ i → none ≡ box_misfit 8 n (tree_fit (model_of image)) b
-tree_end image b k n i s p l = records_end 8 n (tree_fit (model_of image)) b i p.records-fit l
+tree_end image b k n i s p l = records_end 8 n (tree_fit (model_of image)) b i p.records_fit l
 
 pub sites-room : (image : List ℕ) (b k n : ℕ) → SitesAt image b k n → 512 * (k + 1) ≤ length image
 sites-room image b k n h = h.there

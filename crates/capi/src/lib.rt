@@ -118,6 +118,7 @@ pub extern "C" fn bm_copy_refused_block<'a>(
     if out.len() < part.len() {
         return 7;
     }
-    let n = bytes::copy(part, out);
+    let n = part.len();
+    out[..n].copy_from_slice(part);
     packing::packed(0, 0, n, 0)
 }

@@ -163,17 +163,17 @@ module _ (model estimate : List ℕ) (k n c : ℕ) (ops sent listed : List ℕ) 
 
   pub list_named : ListOfNames model k listed c
   list_named = record {
-    long = g.listed-long;
+    long = g.listed_long;
     few = omega (arith, g.few, there.there.few);
     there = λ m l. there.there.there (get_or listed m 0) (g.inside m l);
     each = λ m l. there.each (get_or listed m 0) (g.inside m l);
   }
 
   pub ops_long : length ops ≡ 16
-  ops_long = g.ops-long
+  ops_long = g.ops_long
 
   pub sent_long : length sent ≡ 64
-  sent_long = g.sent-long
+  sent_long = g.sent_long
 
   module _ (boxes b : ℕ) where
     e : Estimate

@@ -96,7 +96,7 @@ module _ (model words : List ℕ) (started : (start model words).answer ≡ none
   pub subject_reduction : (estimate : List ℕ) → check model estimate ≡ accepted → Covers (model_of model) (estimate_of estimate) (steps model (start model words).words vs).words
   subject_reduction estimate ok =
       let c = check-accepted model estimate ok in
-      let valid = valid_image model c.model-read in
+      let valid = valid_image model c.model_read in
       let meets = (broken_iff (model_of model) (estimate_of estimate)).0 c.clauses in
       rw after_is
       (moves_keep (model_of model) (Good (model_of model) (estimate_of estimate)) (good_next (model_of model) valid (estimate_of estimate) meets) vs

@@ -206,7 +206,7 @@ steps_are_moves model read st fits vs =
 
 module _ (model estimate : List ℕ) (h : ℕ) (yes : Yes model estimate h) where
   pub image_valid : Valid (model_of model)
-  image_valid = valid_image model yes.accepts.model-read
+  image_valid = valid_image model yes.accepts.model_read
 
   pub image_accepted : AllClauses (model_of model) (estimate_of estimate)
   image_accepted = (broken_iff (model_of model) (estimate_of estimate)).0 yes.accepts.clauses
@@ -244,8 +244,8 @@ module _ (model₁ model₂ estimate₁ estimate₂ : List ℕ) (h : ℕ) (words
       rw (
         start_words model₁ words₁ s.started₁,
         start_words model₂ words₂ s.started₂,
-        steps_are_moves model₁ yes₁.accepts.model-read _ (image_start model₁ estimate₁ h yes₁).fits moves₁,
-        steps_are_moves model₂ yes₂.accepts.model-read _ (image_start model₂ estimate₂ h yes₂).fits moves₂,
+        steps_are_moves model₁ yes₁.accepts.model_read _ (image_start model₁ estimate₁ h yes₁).fits moves₁,
+        steps_are_moves model₂ yes₂.accepts.model_read _ (image_start model₂ estimate₂ h yes₂).fits moves₂,
       )
       makes_same
 

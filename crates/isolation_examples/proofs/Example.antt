@@ -52,8 +52,8 @@ fillings_equal = record { kinds = refl; count = refl; others = at }
 pub setting : (words₁ words₂ : List ℕ) → length words₁ ≡ state_length → length words₂ ≡ state_length
     → Setting quiet_image busy_image quiet_estimate busy_estimate 2 words₁ words₂ quiet_moves busy_moves
 setting words₁ words₂ l₁ l₂ = record {
-  started₁ = started quiet_image words₁ (question_yes quiet_image quiet_estimate 2 quiet_yes).accepts.model-read l₁;
-  started₂ = started busy_image words₂ (question_yes busy_image busy_estimate 2 busy_yes).accepts.model-read l₂;
+  started₁ = started quiet_image words₁ (question_yes quiet_image quiet_estimate 2 quiet_yes).accepts.model_read l₁;
+  started₂ = started busy_image words₂ (question_yes busy_image busy_estimate 2 busy_yes).accepts.model_read l₂;
   equal_outside = rw (quiet_model, busy_model) fillings_equal;
   shut₁ = quiet_yes;
   shut₂ = busy_yes;
@@ -74,8 +74,8 @@ pub communicate : (words : List ℕ) → length words ≡ state_length
     × (last_stamps (steps quiet_image (start quiet_image words).words quiet_moves).words 2 ≡ 0)
     × (last_stamps (steps busy_image (start busy_image words).words busy_moves).words 2 ≡ 1)
 communicate words l =
-    let q = steps_from quiet_image words (filled quiet) (question_yes quiet_image quiet_estimate 2 quiet_yes).accepts.model-read l quiet_model quiet_moves in
-    let b = steps_from busy_image words (filled busy) (question_yes busy_image busy_estimate 2 busy_yes).accepts.model-read l busy_model busy_moves in
+    let q = steps_from quiet_image words (filled quiet) (question_yes quiet_image quiet_estimate 2 quiet_yes).accepts.model_read l quiet_model quiet_moves in
+    let b = steps_from busy_image words (filled busy) (question_yes busy_image busy_estimate 2 busy_yes).accepts.model_read l busy_model busy_moves in
     (rw q quiet_acts.0, rw b busy_acts.0, rw q quiet_acts.1, rw b busy_acts.1)
 
 -- ---- without "shut off" the conclusion fails: box 1 of K, sending v or sending c, each accepted with an estimate of its own
@@ -108,8 +108,8 @@ pub told_apart : (words₁ words₂ : List ℕ) → length words₁ ≡ state_le
     → ⊥
 unfolding only ◌is◌
 told_apart words₁ words₂ l₁ l₂ same =
-    let a = steps_from (sending_image 4) words₁ (sending 4) (check-accepted (sending_image 4) (sending_estimate 4) accepts_sending).model-read l₁ model_sending meeting in
-    let b = steps_from (sending_image 5) words₂ (sending 5) (check-accepted (sending_image 5) (sending_estimate 5) sending-accepted).model-read l₂ sending_model meeting in
+    let a = steps_from (sending_image 4) words₁ (sending 4) (check-accepted (sending_image 4) (sending_estimate 4) accepts_sending).model_read l₁ model_sending meeting in
+    let b = steps_from (sending_image 5) words₂ (sending 5) (check-accepted (sending_image 5) (sending_estimate 5) sending-accepted).model_read l₂ sending_model meeting in
     let r = same.records 0 (omega arith) refl in
     let z : ◌≡◌ {A = ℕ} 5 6 =
     sym sending_acts.0 ∙ ap (λ (x : MovesResult). binding (thread (record_of x.words 0) 0) 2) (sym a)

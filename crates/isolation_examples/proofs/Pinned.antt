@@ -35,7 +35,7 @@ unfolding steps
 spread_changes words l = record { answer = ap (λ (x : MovesResult). get_or x.answers 0 1) made ∙ ap (λ (k : List ℕ). get_or k 0 1) spread_acts.0; changes = changes }
   where
     read : read_model image_k ≡ none
-    read = (check-accepted image_k image_e accepts_E).model-read
+    read = (check-accepted image_k image_e accepts_E).model_read
 
     made : steps image_k (start image_k words).words (spread_of 0 0 ∷ []) ≡ act_all K (start_state K) (spread_of 0 0 ∷ [])
     made = steps_from image_k words K read l images_agree.0 (spread_of 0 0 ∷ [])

@@ -103,7 +103,7 @@ module _ (model estimate : List ℕ) (k n : ℕ) where
     op_keeps x m a b t = pick (ℕ_discrete x o)
       where
         pick : Dec (x ≡ o) → T (has (get_or ops' x 0) m)
-        pick (yes z) = rw (np.put, z, get_or-set_same ops o np.value 0 (omega (arith, g.ops-long, small)))
+        pick (yes z) = rw (np.put, z, get_or-set_same ops o np.value 0 (omega (arith, g.ops_long, small)))
             (of_true (np.members m b ∙ true_of (has (get_or ops o 0) m or l.name1 is m) ((or_iff (has (get_or ops o 0) m) (l.name1 is m)).1 (inl (subst (λ (y : ℕ). T (has (get_or ops y 0) m)) z t)))))
         pick (no z) = rw (np.put, get_or-set_other ops o x np.value 0 z) t
 
@@ -112,7 +112,7 @@ module _ (model estimate : List ℕ) (k n : ℕ) where
     op_here =
         let m = l.name1 in
         let b : m < 64 = omega (arith, names_of.first) in
-        rw (np.put, get_or-set_same ops o np.value 0 (omega (arith, g.ops-long, small)))
+        rw (np.put, get_or-set_same ops o np.value 0 (omega (arith, g.ops_long, small)))
         (of_true (np.members m b ∙ true_of (has (get_or ops o 0) m or m is m) ((or_iff (has (get_or ops o 0) m) (m is m)).1 (inr ((is_iff m m).1 refl)))))
 
     op_names : (x : ℕ) → x < 16 → NamesOnly (get_or ops' x 0)
@@ -124,7 +124,7 @@ module _ (model estimate : List ℕ) (k n : ℕ) where
           below = λ m b t.
               ⊎_elim (λ u. (g.names o small).below m b u) (λ u. subst (λ (y : ℕ). y < 60) ((is_iff l.name1 m).0 u) names_of.first)
               ((or_iff (has (get_or ops o 0) m) (l.name1 is m)).0 (of_true (sym (np.members m b) ∙ true_of (has np.value m)
-              (rw (np.put, z, get_or-set_same ops o np.value 0 (omega (arith, g.ops-long, small))) at t))));
+              (rw (np.put, z, get_or-set_same ops o np.value 0 (omega (arith, g.ops_long, small))) at t))));
         }
         pick (no z) = rw (np.put, get_or-set_other ops o x np.value 0 z) (g.names x a)
 
@@ -133,19 +133,19 @@ module _ (model estimate : List ℕ) (k n : ℕ) where
     sent_keeps p w a t = pick (ℕ_discrete p l.name1)
       where
         pick : Dec (p ≡ l.name1) → T (within w (get_or sent' p 0))
-        pick (yes z) = rw (sp.put, z, get_or-set_same sent l.name1 sp.value 0 (omega (arith, g.sent-long, names_of.first)))
+        pick (yes z) = rw (sp.put, z, get_or-set_same sent l.name1 sp.value 0 (omega (arith, g.sent_long, names_of.first)))
             (within_trans w (get_or sent l.name1 0) sp.value (subst (λ (y : ℕ). T (within w (get_or sent y 0))) z t) sp.keeps)
         pick (no z) = rw (sp.put, get_or-set_other sent l.name1 p sp.value 0 z) t
 
     sent_here : l.op ≡ paper.output → T (within q (get_or sent' l.name1 0))
-    sent_here e = rw (sp.put, get_or-set_same sent l.name1 sp.value 0 (omega (arith, g.sent-long, names_of.first))) (sp.sends e)
+    sent_here e = rw (sp.put, get_or-set_same sent l.name1 sp.value 0 (omega (arith, g.sent_long, names_of.first))) (sp.sends e)
 
     -- the list
     list_keeps : (m : ℕ) → m < c → get_or listed' m 0 ≡ get_or listed m 0
     list_keeps m a = ap (λ (x : List ℕ). get_or x m 0) lp.put ∙ get_or-set_other listed c m i 0 (λ z. absurd (omega arith))
 
     list_here : get_or listed' c 0 ≡ i
-    list_here = ap (λ (x : List ℕ). get_or x c 0) lp.put ∙ get_or-set_same listed c i 0 (omega (arith, g.listed-long, inside_few))
+    list_here = ap (λ (x : List ℕ). get_or x c 0) lp.put ∙ get_or-set_same listed c i 0 (omega (arith, g.listed_long, inside_few))
 
     list_old : (j : ℕ) → T (any_below c (λ m. get_or listed m 0 is j)) → T (any_below r (λ m. get_or listed' m 0 is j))
     list_old j t =
@@ -173,9 +173,9 @@ module _ (model estimate : List ℕ) (k n : ℕ) where
     pub gathers_turn : Gathers model estimate k (i + 1) ops' sent' listed' r
     unfolding o
     gathers_turn = record {
-      ops_long = ap length np.put ∙ length-set ops o np.value ∙ g.ops-long;
-      sent_long = ap length sp.put ∙ length-set sent l.name1 sp.value ∙ g.sent-long;
-      listed_long = ap length lp.put ∙ length-set listed c i ∙ g.listed-long;
+      ops_long = ap length np.put ∙ length-set ops o np.value ∙ g.ops_long;
+      sent_long = ap length sp.put ∙ length-set sent l.name1 sp.value ∙ g.sent_long;
+      listed_long = ap length lp.put ∙ length-set listed c i ∙ g.listed_long;
       few = omega (arith, g.few, lp.most);
       names = op_names;
       named = each (λ j y. T (has (get_or ops' (y.op % 16) 0) y.name1))
@@ -192,13 +192,13 @@ module _ (model estimate : List ℕ) (k n : ℕ) where
   gathers_end i c ops sent listed g a b = subst (λ (x : ℕ). Gathers model estimate k x ops sent listed c) (le_antisymm a b) g
 
 pub gathers_ops : (model estimate : List ℕ) (k i c : ℕ) (ops sent listed : List ℕ) → Gathers model estimate k i ops sent listed c → length ops ≡ 16
-gathers_ops model estimate k i c ops sent listed g = g.ops-long
+gathers_ops model estimate k i c ops sent listed g = g.ops_long
 
 pub gathers_sent : (model estimate : List ℕ) (k i c : ℕ) (ops sent listed : List ℕ) → Gathers model estimate k i ops sent listed c → length sent ≡ 64
-gathers_sent model estimate k i c ops sent listed g = g.sent-long
+gathers_sent model estimate k i c ops sent listed g = g.sent_long
 
 pub gathers_listed : (model estimate : List ℕ) (k i c : ℕ) (ops sent listed : List ℕ) → Gathers model estimate k i ops sent listed c → length listed ≡ 128
-gathers_listed model estimate k i c ops sent listed g = g.listed-long
+gathers_listed model estimate k i c ops sent listed g = g.listed_long
 
 module _ (model estimate : List ℕ) (k n i : ℕ) (there : LinesOfNames model k n) (h : i < n) where
   pub room : (c : ℕ) (ops sent listed : List ℕ) → Gathers model estimate k i ops sent listed c → c < 128

@@ -68,7 +68,7 @@ pub record SitesPass (image : List ℕ) (b used : ℕ) : Type 0 where
   pub used_up : SetOf used (used_before (model_of image) b 0)
 
 pub used-none : (image : List ℕ) (b used : ℕ) → SitesPass image b used → SetOf used (used_before (model_of image) b 0)
-used-none image b used p = p.used-up
+used-none image b used p = p.used_up
 
 pub six_start : (image : List ℕ) → SitesPass image 0 0
 unfolding used_before
@@ -89,12 +89,12 @@ module _ (image : List ℕ) (l : Layout) (b used : ℕ) (a : Answer) (f : blocks
       let at = sites-at image l f h b q in
       let count = site-count image b k n at in
       record {
-        boxes_fit = boxes_turn 6 m site_count (site_fits m) b n a p.boxes-fit (in_model_lem image l f h b q) count e z;
+        boxes_fit = boxes_turn 6 m site_count (site_fits m) b n a p.boxes_fit (in_model_lem image l f h b q) count e z;
         used_up = record {
           at = λ x g.
               let box : ℕ → Bool = λ c. any_below (site_count (box_at m c)) (λ j. (site_at (box_at m c) j).subject is x) in
               u x
-              ∙ ap₂ ◌or◌ (p.used-up.at x g ∙ ap (λ (t : Bool). any_below b box or t) (any_zero _) ∙ or-false (any_below b box))
+              ∙ ap₂ ◌or◌ (p.used_up.at x g ∙ ap (λ (t : Bool). any_below b box or t) (any_zero _) ∙ or-false (any_below b box))
               (t.at x g
               ∙ any_cong n (λ j. (site_record (block_of image k) j).subject is x) (λ j. (site_at (box_at m b) j).subject is x)
               (λ j w. ap (λ (y : Site). y.subject is x) (site-at image b k n at j w))
@@ -106,12 +106,12 @@ module _ (image : List ℕ) (l : Layout) (b used : ℕ) (a : Answer) (f : blocks
   pub six_stop : (x : code.Refusal) → a ≡ Refused x → answer_in a ≡ sites_misfit (model_of image)
   unfolding sites_misfit
   six_stop x z =
-      boxes_stop 6 (model_of image) site_count (site_fits (model_of image)) b (get_or l.sites b 0) a p.boxes-fit (in_model_lem image l f h b q)
+      boxes_stop 6 (model_of image) site_count (site_fits (model_of image)) b (get_or l.sites b 0) a p.boxes_fit (in_model_lem image l f h b q)
       (site-count image b (get_or l.at b 0) (get_or l.sites b 0) (sites-at image l f h b q)) e x z
 
 pub six_end : (image : List ℕ) (l : Layout) (b used : ℕ) → blocks_fault image ≡ none → FrameOf image l → SitesPass image b used → l.boxes ≤ b → none ≡ sites_misfit (model_of image)
 unfolding sites_misfit
-six_end image l b used f h p q = boxes_end 6 (model_of image) site_count (site_fits (model_of image)) b p.boxes-fit (past_model image l f h b q)
+six_end image l b used f h p q = boxes_end 6 (model_of image) site_count (site_fits (model_of image)) b p.boxes_fit (past_model image l f h b q)
 
 -- ---- 7 and 8
 
@@ -129,17 +129,17 @@ module _ (image : List ℕ) (l : Layout) (b : ℕ) (a : Answer) (f : blocks_faul
     (e : answer_in a ≡ box_misfit 7 (get_or l.lines b 0) (line_fit (model_of image)) b) where
   pub seven_turn : a ≡ NoRefusal → LinesPass image (b + 1)
   seven_turn z = record {
-    boxes_fit = boxes_turn 7 (model_of image) line_count (line_fit (model_of image)) b (get_or l.lines b 0) a p.boxes-fit (in_model_lem image l f h b q) (lines_counted image l b a f h q) e z;
+    boxes_fit = boxes_turn 7 (model_of image) line_count (line_fit (model_of image)) b (get_or l.lines b 0) a p.boxes_fit (in_model_lem image l f h b q) (lines_counted image l b a f h q) e z;
   }
 
   pub seven_stop : (x : code.Refusal) → a ≡ Refused x → answer_in a ≡ lines_misfit (model_of image)
   unfolding lines_misfit
   seven_stop x z =
-      boxes_stop 7 (model_of image) line_count (line_fit (model_of image)) b (get_or l.lines b 0) a p.boxes-fit (in_model_lem image l f h b q) (lines_counted image l b a f h q) e x z
+      boxes_stop 7 (model_of image) line_count (line_fit (model_of image)) b (get_or l.lines b 0) a p.boxes_fit (in_model_lem image l f h b q) (lines_counted image l b a f h q) e x z
 
 pub seven_end : (image : List ℕ) (l : Layout) (b : ℕ) → blocks_fault image ≡ none → FrameOf image l → LinesPass image b → l.boxes ≤ b → none ≡ lines_misfit (model_of image)
 unfolding lines_misfit
-seven_end image l b f h p q = boxes_end 7 (model_of image) line_count (line_fit (model_of image)) b p.boxes-fit (past_model image l f h b q)
+seven_end image l b f h p q = boxes_end 7 (model_of image) line_count (line_fit (model_of image)) b p.boxes_fit (past_model image l f h b q)
 
 pub record TreesPass (image : List ℕ) (b : ℕ) : Type 0 where
   pub boxes_fit : BoxesFit 8 (model_of image) line_count (tree_fit (model_of image)) b
@@ -151,17 +151,17 @@ module _ (image : List ℕ) (l : Layout) (b : ℕ) (a : Answer) (f : blocks_faul
     (e : answer_in a ≡ box_misfit 8 (get_or l.lines b 0) (tree_fit (model_of image)) b) where
   pub eight_turn : a ≡ NoRefusal → TreesPass image (b + 1)
   eight_turn z = record {
-    boxes_fit = boxes_turn 8 (model_of image) line_count (tree_fit (model_of image)) b (get_or l.lines b 0) a p.boxes-fit (in_model_lem image l f h b q) (lines_counted image l b a f h q) e z;
+    boxes_fit = boxes_turn 8 (model_of image) line_count (tree_fit (model_of image)) b (get_or l.lines b 0) a p.boxes_fit (in_model_lem image l f h b q) (lines_counted image l b a f h q) e z;
   }
 
   pub eight_stop : (x : code.Refusal) → a ≡ Refused x → answer_in a ≡ trees_misfit (model_of image)
   unfolding trees_misfit
   eight_stop x z =
-      boxes_stop 8 (model_of image) line_count (tree_fit (model_of image)) b (get_or l.lines b 0) a p.boxes-fit (in_model_lem image l f h b q) (lines_counted image l b a f h q) e x z
+      boxes_stop 8 (model_of image) line_count (tree_fit (model_of image)) b (get_or l.lines b 0) a p.boxes_fit (in_model_lem image l f h b q) (lines_counted image l b a f h q) e x z
 
 pub eight_end : (image : List ℕ) (l : Layout) (b : ℕ) → blocks_fault image ≡ none → FrameOf image l → TreesPass image b → l.boxes ≤ b → none ≡ trees_misfit (model_of image)
 unfolding trees_misfit
-eight_end image l b f h p q = boxes_end 8 (model_of image) line_count (tree_fit (model_of image)) b p.boxes-fit (past_model image l f h b q)
+eight_end image l b f h p q = boxes_end 8 (model_of image) line_count (tree_fit (model_of image)) b p.boxes_fit (past_model image l f h b q)
 
 -- ---- 9
 
@@ -170,7 +170,7 @@ pub record ReachPass (image : List ℕ) (b bound : ℕ) : Type 0 where
   pub bound_up : SetOf bound (bound_before (model_of image) b 0)
 
 pub bound-none : (image : List ℕ) (b bound : ℕ) → ReachPass image b bound → SetOf bound (bound_before (model_of image) b 0)
-bound-none image b bound p = p.bound-up
+bound-none image b bound p = p.bound_up
 
 pub nine_start : (image : List ℕ) → ReachPass image 0 0
 unfolding bound_before
@@ -193,12 +193,12 @@ module _ (image : List ℕ) (l : Layout) (b bound : ℕ) (a : Answer) (f : block
   nine_turn r z u =
       let m = model_of image in
       record {
-        boxes_fit = boxes_turn 9 m line_count (reach_fits m) b (get_or l.lines b 0) a p.boxes-fit (in_model_lem image l f h.frame b q) (lines_counted image l b a f h.frame q) e z;
+        boxes_fit = boxes_turn 9 m line_count (reach_fits m) b (get_or l.lines b 0) a p.boxes_fit (in_model_lem image l f h.frame b q) (lines_counted image l b a f h.frame q) e z;
         bound_up = record {
           at = λ x g.
               let box : ℕ → Bool = λ c. binds_in (box_at m c) x in
               u x
-              ∙ ap₂ ◌or◌ (p.bound-up.at x g ∙ ap (λ (t : Bool). any_below b box or t) (any_zero _) ∙ or-false (any_below b box)) ((binds_in_lem image l f h b q).at x g)
+              ∙ ap₂ ◌or◌ (p.bound_up.at x g ∙ ap (λ (t : Bool). any_below b box or t) (any_zero _) ∙ or-false (any_below b box)) ((binds_in_lem image l f h b q).at x g)
               ∙ sym (any_more b box) ∙ sym (ap (λ (t : Bool). any_below (b + 1) box or t) (any_zero _) ∙ or-false (any_below (b + 1) box));
         };
       }
@@ -206,11 +206,11 @@ module _ (image : List ℕ) (l : Layout) (b bound : ℕ) (a : Answer) (f : block
   pub nine_stop : (x : code.Refusal) → a ≡ Refused x → answer_in a ≡ reach_misfit (model_of image)
   unfolding reach_misfit
   nine_stop x z =
-      boxes_stop 9 (model_of image) line_count (reach_fits (model_of image)) b (get_or l.lines b 0) a p.boxes-fit (in_model_lem image l f h.frame b q) (lines_counted image l b a f h.frame q) e x z
+      boxes_stop 9 (model_of image) line_count (reach_fits (model_of image)) b (get_or l.lines b 0) a p.boxes_fit (in_model_lem image l f h.frame b q) (lines_counted image l b a f h.frame q) e x z
 
 pub nine_end : (image : List ℕ) (l : Layout) (b bound : ℕ) → blocks_fault image ≡ none → FrameOf image l → ReachPass image b bound → l.boxes ≤ b → none ≡ reach_misfit (model_of image)
 unfolding reach_misfit
-nine_end image l b bound f h p q = boxes_end 9 (model_of image) line_count (reach_fits (model_of image)) b p.boxes-fit (past_model image l f h b q)
+nine_end image l b bound f h p q = boxes_end 9 (model_of image) line_count (reach_fits (model_of image)) b p.boxes_fit (past_model image l f h b q)
 
 -- ---- the whole model
 

@@ -145,8 +145,8 @@ module _ (image : List ℕ) (l : Layout) (f : blocks_fault image ≡ none) (h : 
           let frees = free_in image l f h in
           let two = empty_or_left (bit_or bad sb) wb e in
           let so = p.told (empty_or_left bad sb two) in
-          let x = s.tells (empty_or_right bad sb two) b (record { at = at-sites; few = few_kinds image l f h; frees = frees; before = so.used-up }) in
-          let y = w.tells (empty_or_right (bit_or bad sb) wb e) b (record { at = at_lines; kinds = kinds_in image l f h; free = frees; before = so.bound-up }) in
+          let x = s.tells (empty_or_right bad sb two) b (record { at = at-sites; few = few_kinds image l f h; frees = frees; before = so.used_up }) in
+          let y = w.tells (empty_or_right (bit_or bad sb) wb e) b (record { at = at_lines; kinds = kinds_in image l f h; free = frees; before = so.bound_up }) in
           let sites : get_or l.sites b 0 ≡ site_count (box_at m b) = site-count image b (get_or l.at b 0) (get_or l.sites b 0) at-sites in
           let lines : get_or l.lines b 0 ≡ line_count (box_at m b) = line-count image b (get_or l.at b 0) (get_or l.lines b 0) at_lines in
           record {
@@ -157,7 +157,7 @@ module _ (image : List ℕ) (l : Layout) (f : blocks_fault image ≡ none) (h : 
             used_up = record { at = λ n z. x.before.at n z ∙ used-next m b n (get_or l.sites b 0) sites };
             bound_up = record { at = λ n z. y.before.at n z ∙ bound-next m b n (get_or l.lines b 0) lines };
             binders = set_entry (λ c v. (n : ℕ) → n < 64 → has v n ≡ binds_in (box_of_image image c) n) bound b r boxes_room so.binders
-                (λ n z. bound_here m b (get_or l.lines b 0) seen ws rest r rests less lines so.bound-up y.before y.reach n z
+                (λ n z. bound_here m b (get_or l.lines b 0) seen ws rest r rests less lines so.bound_up y.before y.reach n z
                 ∙ ap (λ (x : Box). binds_in x n) (model_box image b (inside image l f h b q)));
           };
     }

@@ -133,7 +133,7 @@ module _ (image : List ℕ) (k n free start : ℕ) where
         let run = p.told z b g in
         record {
           sites = λ j h. (passed_iff (site_fits (model_of image) b j) (refusal 6 b j)).0 ((first_iff n _).0 (sym (site_end image b n i used run l)) j h);
-          before = subst (λ (j : ℕ). SetOf used (used_before (model_of image) b j)) (le_antisymm p.some l) run.used-up;
+          before = subst (λ (j : ℕ). SetOf used (used_before (model_of image) b j)) (le_antisymm p.some l) run.used_up;
         };
   }
 

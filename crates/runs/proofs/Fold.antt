@@ -139,8 +139,8 @@ module _ (image : List ℕ) where
         s_length = refl;
         rs_length = refl;
         ready = plan.ready;
-        s_is = plan.s-is;
-        rs_is = plan.rs-is;
+        s_is = plan.s_is;
+        rs_is = plan.rs_is;
       }
 
       -- one move more
@@ -174,11 +174,11 @@ module _ (image : List ℕ) where
         s = s';
         rs = rs';
         sum = omega (arith, x.sum);
-        s_length = l ∙ x.s-length;
-        rs_length = l' ∙ x.rs-length;
+        s_length = l ∙ x.s_length;
+        rs_length = l' ∙ x.rs_length;
         ready = λ _. e.2;
-        s_is = s_next x.left x.i x.s s' (some_left x less) e.0 ∙ x.s-is;
-        rs_is = rs_next x.left x.i x.s s' (some_left x less) e.0 x.rs rs' e.1 ∙ x.rs-is;
+        s_is = s_next x.left x.i x.s s' (some_left x less) e.0 ∙ x.s_is;
+        rs_is = rs_next x.left x.i x.s s' (some_left x less) e.0 x.rs rs' e.1 ∙ x.rs_is;
       }
 
       abbrev pub Nearer : Turn → Turn → Type 0
@@ -192,8 +192,8 @@ module _ (image : List ℕ) where
 
       pub ended : (x : Turn) → r.count ≤ x.i → (x.s ≡ (run image s₀ (moves_in ms) rs₀).words) × (x.rs ≡ (run image s₀ (moves_in ms) rs₀).answers)
       ended x over = (
-        ap (λ (t : ℕ). state_from ms t x.i x.s) (sym none_left) ∙ x.s-is,
-        ap (λ (t : ℕ). answers_from ms t x.i x.s x.rs) (sym none_left) ∙ x.rs-is,
+        ap (λ (t : ℕ). state_from ms t x.i x.s) (sym none_left) ∙ x.s_is,
+        ap (λ (t : ℕ). answers_from ms t x.i x.s x.rs) (sym none_left) ∙ x.rs_is,
       )
         where
           none_left : x.left ≡ 0

@@ -104,24 +104,24 @@ numbers_start image numbers w s₀ rs₀ b e =
 module _ (image numbers s₀ rs₀ : List ℕ) (b : Begun) (i : ℕ) (s rs : List ℕ) (p : NumbersRun image numbers s₀ rs₀ b i s rs) where
   module _ (h : i < b.count) where
     before_end : p.turn.i < b.count
-    before_end = omega (arith, p.i-is)
+    before_end = omega (arith, p.i_is)
 
     pub numbers_room : 5 * i + 5 ≤ length numbers
     numbers_room = omega (arith, p.plan.moves, moves-count numbers)
 
     pub numbers_ready : Ready image b.places s
     numbers_ready =
-        subst (Ready image b.places) p.s-is
+        subst (Ready image b.places) p.s_is
         (p.turn.ready (some_left image (moves_of numbers) s₀ rs₀ b p.plan p.turn before_end))
 
     pub numbers_answer : i < length rs
-    numbers_answer = omega (arith, p.plan.answers, p.turn.rs-length, ap length p.rs-is)
+    numbers_answer = omega (arith, p.plan.answers, p.turn.rs_length, ap length p.rs_is)
 
     -- the move that the numbers are
     the_move : get_or (moves_of numbers) p.turn.i no_move ≡ move_at numbers i
     unfolding moves_of
     the_move =
-        ap (λ (k : ℕ). get_or (moves_of numbers) k no_move) p.i-is
+        ap (λ (k : ℕ). get_or (moves_of numbers) k no_move) p.i_is
         ∙ get_d_tabulate (length numbers / 5) (move_at numbers) no_move i (omega (arith, p.plan.moves, moves-count numbers))
 
     pub numbers_turn : (s' rs' : List ℕ) → (s' ≡ outcome_words s (act (model_of image) s (move_in (move_at numbers i))))
@@ -131,14 +131,14 @@ module _ (image numbers s₀ rs₀ : List ℕ) (b : Begun) (i : ℕ) (s rs : Lis
       plan = p.plan;
       turn =
           next image (moves_of numbers) s₀ rs₀ b p.plan p.turn before_end s' rs'
-          (long s' e.2 ∙ sym (ap length p.s-is ∙ long s numbers_ready))
-          (ap length e.1 ∙ length-set rs i _ ∙ sym (ap length p.rs-is)) (
-            e.0 ∙ ap₂ (λ (x : List ℕ) (v : Move). step_s image x v) (sym p.s-is) (sym the_move),
-            e.1 ∙ ap₂ (λ (x : List ℕ) (k : ℕ). set x k (step_a image s (move_at numbers i))) (sym p.rs-is) (sym p.i-is)
-                ∙ ap₂ (λ (x : List ℕ) (v : Move). set p.turn.rs p.turn.i (step_a image x v)) (sym p.s-is) (sym the_move),
+          (long s' e.2 ∙ sym (ap length p.s_is ∙ long s numbers_ready))
+          (ap length e.1 ∙ length-set rs i _ ∙ sym (ap length p.rs_is)) (
+            e.0 ∙ ap₂ (λ (x : List ℕ) (v : Move). step_s image x v) (sym p.s_is) (sym the_move),
+            e.1 ∙ ap₂ (λ (x : List ℕ) (k : ℕ). set x k (step_a image s (move_at numbers i))) (sym p.rs_is) (sym p.i_is)
+                ∙ ap₂ (λ (x : List ℕ) (v : Move). set p.turn.rs p.turn.i (step_a image x v)) (sym p.s_is) (sym the_move),
             e.2,
           );
-      i_is = ap (λ (k : ℕ). k + 1) p.i-is;
+      i_is = ap (λ (k : ℕ). k + 1) p.i_is;
       s_is = refl;
       rs_is = refl;
     }
@@ -150,10 +150,10 @@ module _ (image numbers s₀ rs₀ : List ℕ) (b : Begun) (i : ℕ) (s rs : Lis
       → (answer_in b.answer ≡ (run image w (moves_in (moves_of numbers)) rs₀).answer) × (s ≡ (run image w (moves_in (moves_of numbers)) rs₀).words)
       × (rs ≡ (run image w (moves_in (moves_of numbers)) rs₀).answers)
   numbers_end w h q =
-      let e = ended image (moves_of numbers) s₀ rs₀ b p.plan p.turn (omega (arith, p.i-is)) in (
+      let e = ended image (moves_of numbers) s₀ rs₀ b p.plan p.turn (omega (arith, p.i_is)) in (
         p.plan.answer ∙ ap (λ (x : List ℕ). (run image x (moves_in (moves_of numbers)) rs₀).answer) q.1,
-        sym p.s-is ∙ e.0 ∙ ap (λ (x : List ℕ). (run image x (moves_in (moves_of numbers)) rs₀).words) q.1,
-        sym p.rs-is ∙ e.1 ∙ ap (λ (x : List ℕ). (run image x (moves_in (moves_of numbers)) rs₀).answers) q.1,
+        sym p.s_is ∙ e.0 ∙ ap (λ (x : List ℕ). (run image x (moves_in (moves_of numbers)) rs₀).words) q.1,
+        sym p.rs_is ∙ e.1 ∙ ap (λ (x : List ℕ). (run image x (moves_in (moves_of numbers)) rs₀).answers) q.1,
       )
 
 pub ruleset numbers = (rules, numbers_start, numbers_room, numbers_ready, numbers_answer, numbers_turn, numbers_end)
