@@ -80,62 +80,48 @@ number_turn image numbers s s' rs rs' places i e = (
   e.2,
 )
 
--- ---- the loop over numbers: the turns of the moves that they are
+-- ---- the loop over a list of moves
 
-pub record NumbersRun (image numbers s₀ rs₀ : List ℕ) (b : Begun) (i : ℕ) (s rs : List ℕ) : Type 0 where
-  pub plan : Planned image (moves_of numbers) s₀ rs₀ b
-  pub turn : Turn image (moves_of numbers) s₀ rs₀ b plan
+pub record MovesRun (image : List ℕ) (ms : List Move) (s₀ rs₀ : List ℕ) (b : Begun) (i : ℕ) (s rs : List ℕ) : Type 0 where
+  pub plan : Planned image ms s₀ rs₀ b
+  pub turn : Turn image ms s₀ rs₀ b plan
   pub i_is : turn.i ≡ i
   pub s_is : turn.s ≡ s
   pub rs_is : turn.rs ≡ rs
 
-moves-count : (numbers : List ℕ) → length (moves_of numbers) ≡ length numbers / 5
-unfolding moves_of
-moves-count numbers = length-tabulate (length numbers / 5) (move_at numbers)
-
 -- w: the words before the tests, which leave them as they are
-pub numbers_start : (image numbers w s₀ rs₀ : List ℕ) (b : Begun) → Begins image w (length numbers / 5) (length rs₀) b × (s₀ ≡ w)
-    → NumbersRun image numbers s₀ rs₀ b 0 s₀ rs₀
-numbers_start image numbers w s₀ rs₀ b e =
-    let p = planned image (moves_of numbers) s₀ rs₀ b
-    (subst (λ (n : ℕ). Begins image s₀ n (length rs₀) b) (sym (moves-count numbers)) (subst (λ (x : List ℕ). Begins image x (length numbers / 5) (length rs₀) b) (sym e.1) e.0)) in
-    record { plan = p; turn = begin image (moves_of numbers) s₀ rs₀ b p; i_is = refl; s_is = refl; rs_is = refl }
+pub moves_start : (image : List ℕ) (ms : List Move) (w s₀ rs₀ : List ℕ) (b : Begun) → Begins image w (length ms) (length rs₀) b × (s₀ ≡ w)
+    → MovesRun image ms s₀ rs₀ b 0 s₀ rs₀
+moves_start image ms w s₀ rs₀ b e =
+    let p = planned image ms s₀ rs₀ b (subst (λ (x : List ℕ). Begins image x (length ms) (length rs₀) b) (sym e.1) e.0) in
+    record { plan = p; turn = begin image ms s₀ rs₀ b p; i_is = refl; s_is = refl; rs_is = refl }
 
-module _ (image numbers s₀ rs₀ : List ℕ) (b : Begun) (i : ℕ) (s rs : List ℕ) (p : NumbersRun image numbers s₀ rs₀ b i s rs) where
+module _ (image : List ℕ) (ms : List Move) (s₀ rs₀ : List ℕ) (b : Begun) (i : ℕ) (s rs : List ℕ) (p : MovesRun image ms s₀ rs₀ b i s rs) where
   module _ (h : i < b.count) where
     before_end : p.turn.i < b.count
     before_end = omega (arith, p.i_is)
 
-    pub numbers_room : 5 * i + 5 ≤ length numbers
-    numbers_room = omega (arith, p.plan.moves, moves-count numbers)
+    pub moves_room : i < length ms
+    moves_room = omega (arith, p.plan.moves)
 
-    pub numbers_ready : Ready image b.places s
-    numbers_ready =
-        subst (Ready image b.places) p.s_is
-        (p.turn.ready (some_left image (moves_of numbers) s₀ rs₀ b p.plan p.turn before_end))
+    pub moves_ready : Ready image b.places s
+    moves_ready = subst (Ready image b.places) p.s_is (p.turn.ready (some_left image ms s₀ rs₀ b p.plan p.turn before_end))
 
-    pub numbers_answer : i < length rs
-    numbers_answer = omega (arith, p.plan.answers, p.turn.rs_length, ap length p.rs_is)
+    pub moves_answer : i < length rs
+    moves_answer = omega (arith, p.plan.answers, p.turn.rs_length, ap length p.rs_is)
 
-    -- the move that the numbers are
-    the_move : get_or (moves_of numbers) p.turn.i no_move ≡ move_at numbers i
-    unfolding moves_of
-    the_move =
-        ap (λ (k : ℕ). get_or (moves_of numbers) k no_move) p.i_is
-        ∙ get_d_tabulate (length numbers / 5) (move_at numbers) no_move i (omega (arith, p.plan.moves, moves-count numbers))
-
-    pub numbers_turn : (s' rs' : List ℕ) → (s' ≡ outcome_words s (act (model_of image) s (move_in (move_at numbers i))))
-        × (rs' ≡ set rs i (outcome_number (act (model_of image) s (move_in (move_at numbers i))))) × Ready image b.places s'
-        → NumbersRun image numbers s₀ rs₀ b (i + 1) s' rs'
-    numbers_turn s' rs' e = record {
+    pub moves_turn : (v : Move) → get_or ms i no_move ≡ v → (s' rs' : List ℕ) → (s' ≡ outcome_words s (act (model_of image) s (move_in v)))
+        × (rs' ≡ set rs i (outcome_number (act (model_of image) s (move_in v)))) × Ready image b.places s'
+        → MovesRun image ms s₀ rs₀ b (i + 1) s' rs'
+    moves_turn v q s' rs' e = record {
       plan = p.plan;
       turn =
-          next image (moves_of numbers) s₀ rs₀ b p.plan p.turn before_end s' rs'
-          (long s' e.2 ∙ sym (ap length p.s_is ∙ long s numbers_ready))
+          next image ms s₀ rs₀ b p.plan p.turn before_end s' rs'
+          (long s' e.2 ∙ sym (ap length p.s_is ∙ long s moves_ready))
           (ap length e.1 ∙ length-set rs i _ ∙ sym (ap length p.rs_is)) (
-            e.0 ∙ ap₂ (λ (x : List ℕ) (v : Move). step_s image x v) (sym p.s_is) (sym the_move),
-            e.1 ∙ ap₂ (λ (x : List ℕ) (k : ℕ). set x k (step_a image s (move_at numbers i))) (sym p.rs_is) (sym p.i_is)
-                ∙ ap₂ (λ (x : List ℕ) (v : Move). set p.turn.rs p.turn.i (step_a image x v)) (sym p.s_is) (sym the_move),
+            e.0 ∙ ap₂ (λ (x : List ℕ) (u : Move). step_s image x u) (sym p.s_is) (sym the_move),
+            e.1 ∙ ap₂ (λ (x : List ℕ) (k : ℕ). set x k (step_a image s v)) (sym p.rs_is) (sym p.i_is)
+                ∙ ap₂ (λ (x : List ℕ) (u : Move). set p.turn.rs p.turn.i (step_a image x u)) (sym p.s_is) (sym the_move),
             e.2,
           );
       i_is = ap (λ (k : ℕ). k + 1) p.i_is;
@@ -143,18 +129,66 @@ module _ (image numbers s₀ rs₀ : List ℕ) (b : Begun) (i : ℕ) (s rs : Lis
       rs_is = refl;
     }
       where
+        the_move : get_or ms p.turn.i no_move ≡ v
+        the_move = ap (λ (k : ℕ). get_or ms k no_move) p.i_is ∙ q
+
         long : (x : List ℕ) → Ready image b.places x → length x ≡ 9112
         long x k = ((state_iff (model_of image) x).0 k.fits).size
+
+  pub moves_end : (w : List ℕ) → b.count ≤ i → Begins image w (length ms) (length rs₀) b × (s₀ ≡ w)
+      → (answer_in b.answer ≡ (run image w (moves_in ms) rs₀).answer) × (s ≡ (run image w (moves_in ms) rs₀).words) × (rs ≡ (run image w (moves_in ms) rs₀).answers)
+  moves_end w h q =
+      let e = ended image ms s₀ rs₀ b p.plan p.turn (omega (arith, p.i_is)) in (
+        p.plan.answer ∙ ap (λ (x : List ℕ). (run image x (moves_in ms) rs₀).answer) q.1,
+        sym p.s_is ∙ e.0 ∙ ap (λ (x : List ℕ). (run image x (moves_in ms) rs₀).words) q.1,
+        sym p.rs_is ∙ e.1 ∙ ap (λ (x : List ℕ). (run image x (moves_in ms) rs₀).answers) q.1,
+      )
+
+-- ---- the loop over numbers: the turns of the moves that they are
+
+abbrev pub NumbersRun : (image numbers s₀ rs₀ : List ℕ) → Begun → ℕ → (s rs : List ℕ) → Type 0
+NumbersRun image numbers = MovesRun image (moves_of numbers)
+
+moves-count : (numbers : List ℕ) → length (moves_of numbers) ≡ length numbers / 5
+unfolding moves_of
+moves-count numbers = length-tabulate (length numbers / 5) (move_at numbers)
+
+-- so many moves stand in the numbers
+as_moves : (image numbers w s₀ rs₀ : List ℕ) (b : Begun) → Begins image w (length numbers / 5) (length rs₀) b × (s₀ ≡ w)
+    → Begins image w (length (moves_of numbers)) (length rs₀) b × (s₀ ≡ w)
+as_moves image numbers w s₀ rs₀ b e = (subst (λ (n : ℕ). Begins image w n (length rs₀) b) (sym (moves-count numbers)) e.0, e.1)
+
+pub numbers_start : (image numbers w s₀ rs₀ : List ℕ) (b : Begun) → Begins image w (length numbers / 5) (length rs₀) b × (s₀ ≡ w)
+    → NumbersRun image numbers s₀ rs₀ b 0 s₀ rs₀
+numbers_start image numbers w s₀ rs₀ b e = moves_start image (moves_of numbers) w s₀ rs₀ b (as_moves image numbers w s₀ rs₀ b e)
+
+module _ (image numbers s₀ rs₀ : List ℕ) (b : Begun) (i : ℕ) (s rs : List ℕ) (p : NumbersRun image numbers s₀ rs₀ b i s rs) where
+  module _ (h : i < b.count) where
+    pub numbers_room : 5 * i + 5 ≤ length numbers
+    numbers_room = omega (arith, p.plan.moves, moves-count numbers)
+
+    pub numbers_ready : Ready image b.places s
+    numbers_ready = moves_ready image (moves_of numbers) s₀ rs₀ b i s rs p h
+
+    pub numbers_answer : i < length rs
+    numbers_answer = moves_answer image (moves_of numbers) s₀ rs₀ b i s rs p h
+
+    -- the move that the numbers are
+    the_move : get_or (moves_of numbers) i no_move ≡ move_at numbers i
+    unfolding moves_of
+    the_move = get_d_tabulate (length numbers / 5) (move_at numbers) no_move i (omega (arith, p.plan.moves, moves-count numbers))
+
+    pub numbers_turn : (s' rs' : List ℕ) → (s' ≡ outcome_words s (act (model_of image) s (move_in (move_at numbers i))))
+        × (rs' ≡ set rs i (outcome_number (act (model_of image) s (move_in (move_at numbers i))))) × Ready image b.places s'
+        → NumbersRun image numbers s₀ rs₀ b (i + 1) s' rs'
+    numbers_turn s' rs' e = moves_turn image (moves_of numbers) s₀ rs₀ b i s rs p h (move_at numbers i) the_move s' rs' e
 
   pub numbers_end : (w : List ℕ) → b.count ≤ i → Begins image w (length numbers / 5) (length rs₀) b × (s₀ ≡ w)
       → (answer_in b.answer ≡ (run image w (moves_in (moves_of numbers)) rs₀).answer) × (s ≡ (run image w (moves_in (moves_of numbers)) rs₀).words)
       × (rs ≡ (run image w (moves_in (moves_of numbers)) rs₀).answers)
-  numbers_end w h q =
-      let e = ended image (moves_of numbers) s₀ rs₀ b p.plan p.turn (omega (arith, p.i_is)) in (
-        p.plan.answer ∙ ap (λ (x : List ℕ). (run image x (moves_in (moves_of numbers)) rs₀).answer) q.1,
-        sym p.s_is ∙ e.0 ∙ ap (λ (x : List ℕ). (run image x (moves_in (moves_of numbers)) rs₀).words) q.1,
-        sym p.rs_is ∙ e.1 ∙ ap (λ (x : List ℕ). (run image x (moves_in (moves_of numbers)) rs₀).answers) q.1,
-      )
+  numbers_end w h q = moves_end image (moves_of numbers) s₀ rs₀ b i s rs p w h (as_moves image numbers w s₀ rs₀ b q)
+
+pub ruleset list_of_moves = (rules, moves_start, moves_room, moves_ready, moves_answer, moves_turn, moves_end)
 
 pub ruleset numbers = (rules, numbers_start, numbers_room, numbers_ready, numbers_answer, numbers_turn, numbers_end)
 

@@ -1,4 +1,5 @@
 -- `box_runs::box_tree` meets its contract. Assumes nothing.
+use Rattle.std.proofs.Common.{ap, not}
 use Prim.Native.Nat.{◌-◌}
 use Rattle.box_runs.proofs.Runs.{TreeRun, tree-turn, runs}
 use Rattle.box_runs.proofs.box_tree.Goals as goal
@@ -33,7 +34,7 @@ loop-i-smaller c = search runs
 pub loop-i-preserved : goal.loop-i-preserved
 loop-i-preserved c =
     tree-turn _ _ _ _ _ _ _ _ _ c.loop-i.invariant c.requires c.loop-i-test.true
-    c.line-l.ensures c.children-all.ensures c.tree_fits.ensures _ c.if-not-tree_fits.false c.with_children-seen.ensures
+    c.line-l.ensures c.children-all.ensures c.tree_fits.ensures _ (ap not c.if-not-tree_fits.false) c.with_children-seen.ensures
 
 pub returns : goal.returns
 returns c = search runs

@@ -29,7 +29,7 @@ returns-then-not-t c = search lists
 
 pub overflow_add-m : goal.overflow_add-m
 overflow_add-m c =
-    list_next _ _ _ _ _ c.requires.1 c.loop-m-test.true
+    list_next _ _ _ _ _ c.requires.lines c.loop-m-test.true
 
 pub loop-m-smaller : goal.loop-m-smaller
 loop-m-smaller c = search lists

@@ -9,7 +9,7 @@ pub empty_layout-requires : goal.empty_layout-requires
 empty_layout-requires c = search models
 
 pub returns-in-Refused : goal.returns-in-Refused
-returns-in-Refused c = (search models, λ e. refused-not c.length_fault-f.result _ c.in-Refused.is e)
+returns-in-Refused c = record { answer = search models; layout = λ e. refused-not c.length_fault-f.result _ c.in-Refused.is e }
 
 pub blocks_fault-g-requires : goal.blocks_fault-g-requires
 blocks_fault-g-requires c = search models
@@ -18,7 +18,7 @@ pub empty_layout-requires-in-Refused-g : goal.empty_layout-requires-in-Refused-g
 empty_layout-requires-in-Refused-g c = search models
 
 pub returns-in-Refused-g : goal.returns-in-Refused-g
-returns-in-Refused-g c = (search models, λ e. refused-not c.blocks_fault-g.result _ c.in-Refused-g.is e)
+returns-in-Refused-g c = record { answer = search models; layout = λ e. refused-not c.blocks_fault-g.result _ c.in-Refused-g.is e }
 
 pub walk_layout-w-requires : goal.walk_layout-w-requires
 walk_layout-w-requires c = search models

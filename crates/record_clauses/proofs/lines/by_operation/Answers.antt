@@ -6,18 +6,15 @@ use Rattle.record_clauses.proofs.lines.by_operation.Goals as goal
 
 pub clause4-requires : goal.clause4-requires
 clause4-requires c =
-    let pre = c.requires in
-    (pre.0.1, pre.1.0, may_4 (estimate_of _) _ _ _ _ pre.1.1 (search arms))
+    (c.requires.tables.1, c.requires.line.0, may_4 (estimate_of _) _ _ _ _ c.requires.line.1 (search arms))
 
 pub clause5-requires : goal.clause5-requires
 clause5-requires c =
-    let pre = c.requires in
-    (pre.0.1, pre.1.0, may_5 (estimate_of _) _ _ _ _ pre.1.1 (search arms))
+    (c.requires.tables.1, c.requires.line.0, may_5 (estimate_of _) _ _ _ _ c.requires.line.1 (search arms))
 
 pub clause6-requires : goal.clause6-requires
 clause6-requires c =
-    let pre = c.requires in
-    (pre.0.0, pre.0.2, pre.1.0, may_6 (estimate_of _) _ _ _ _ pre.1.1 (search arms))
+    (c.requires.tables.0, c.requires.tables.2, c.requires.line.0, may_6 (estimate_of _) _ _ _ _ c.requires.line.1 (search arms))
 
 pub returns-in-3 : goal.returns-in-3
 returns-in-3 c = search arms
