@@ -5,7 +5,7 @@ use Rattle.definitions.specs.Clauses.{Verdict, accepted, breaks, refused_model, 
 
 -- a part stands in an image from byte n on: the same allocation, and the offset
 abbrev pub At : Bor (List ℕ) → Bor (List ℕ) → ℕ → Type 0
-At part image n = (part.ptr.0 ≡ image.ptr.0) × (part.ptr.1 ≡ image.ptr.1 + n)
+At part image n = (part.ref_ptr.0 ≡ image.ref_ptr.0) × (part.ref_ptr.1 ≡ image.ref_ptr.1 + n)
 
 -- a part that is block k of an image stands at 512 times k; an empty part is the model's
 pub record Stands (model image part : Bor (List ℕ)) (k : ℕ) : Type 0 where

@@ -10,7 +10,7 @@ use Rattle.definitions.specs.Bounded.{◌and◌, ◌is◌, ◌isnt◌, ◌below�
 use Rattle.definitions.specs.Model.{Box, Model, box_at, box_count, kind_of_name, nil, parallel, replication, restriction, output as op_output, input as op_input, expose as op_expose}
 use Rattle.definitions.specs.Record.{held, held_number, stamp_limit, stamp, threads, sites, site, thread, subject, flag, set_stamp, put_thread, push_thread, take_thread, put_site, push_site, set_flag, goto, record_of, put_record}
 use Rattle.definitions.specs.Start.{type_words}
-use Rattle.definitions.specs.Moves.{Inside, new, Kind, inside, inter, unknown, kind_of_move, Move, Outcome, refused, made, Ends, need, on_made, site_with, found, at, types_share, value_in, thread_line, onward, onward_with, value1, value2, at_line, drop_move, spread_move, new_move, copy_move, expose_move, turn_move, intra_move, inside_move, inter_move, inside_act, inter_act, act_as, act}
+use Rattle.definitions.specs.Moves.{Inside, Kind, inside, inter, unknown, kind_of_move, Move, Outcome, refused, made, Ends, need, on_made, site_with, found, at, types_share, value_in, thread_line, onward, onward_with, value1, value2, at_line, drop_move, spread_move, new_move, copy_move, expose_move, turn_move, intra_move, inside_move, inter_move, inside_act, inter_act, act_as, act}
 use Rattle.definitions.proofs.Bounded.{tests, first_found, fault_some}
 
 -- ---- a refused move is not made; what a test in front of a move shows

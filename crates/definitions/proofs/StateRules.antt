@@ -11,7 +11,7 @@ use lib.ListN.{length}
 use lib.Seq.{ext_get_or}
 use Rattle.definitions.specs.Bounded.{◌and◌, ◌is◌, ◌below◌, ◌upto◌}
 use Rattle.definitions.specs.Slots.{word, zeros}
-use Rattle.definitions.specs.Model.{Box, Model, box_at, line_count, box_count, listed, kind_of_name, bound_above, owner}
+use Rattle.definitions.specs.Model.{Box, Model, box_at, line_count, box_count, kind_of_name, bound_above, owner}
 use Rattle.definitions.specs.Record.{held_number, held_stamp, stamp_limit, stamp, threads, sites, site, thread, subject, flag, type_word, line, binding, state_length, record_of, last_stamps}
 use Rattle.definitions.specs.StateRules.{clear, slots_fit, stamp_fits, held_fits, type_words_fit, site_words_fit, thread_words_fit, record_fits, state_fits}
 use Rattle.definitions.proofs.Bounded.{choice_iff, tests, and_iff, or_iff, is_iff, below_iff, upto_iff}

@@ -16,7 +16,7 @@ returns-in-Refused c = search starts
 
 pub write-requires : goal.write-requires
 write-requires c =
-    ((search starts, c.read-read.ensures.layout (search starts)), search starts)
+    record { model_value = (search starts, c.read-read.ensures.layout (search starts)); state_len = search starts }
 
 pub returns : goal.returns
 returns c = search starts

@@ -16,7 +16,7 @@ limits-requires c = search state-rules
 
 pub records_fit-requires : goal.records_fit-requires
 records_fit-requires c =
-    (c.requires, (search state-rules, limits_of _ _ _ _ _ c.limits.ensures c.requires.1))
+    record { model = c.requires; state = search state-rules; limits = limits_of _ _ _ _ _ c.limits.ensures c.requires.1 }
 
 pub returns-then-not-records_fit : goal.returns-then-not-records_fit
 returns-then-not-records_fit c = search state-rules
