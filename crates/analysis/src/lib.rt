@@ -70,8 +70,6 @@ fn refused_part<'a>(model: &'a [u8], estimate: &'a [u8]) -> &'a [u8]
 pub fn refused_block<'a: 'r, 'b: 'r, 'r>(model: &'a [u8], estimate: &'b [u8]) -> &'r [u8]
     ensures { (result.now ≡ shut.refused_block model.now estimate.now) × RefusedStands model.entry estimate.entry (clauses.read_both model.now estimate.now) result }
 {
-    let m: &'r [u8] = model;
-    let e: &'r [u8] = estimate;
-    let part = refused_part(m, e);
+    let part = refused_part(model, estimate);
     part
 }
