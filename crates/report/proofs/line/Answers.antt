@@ -6,22 +6,6 @@ use mathlib.Core.Path.{refl}
 use lib.Dec.{lit≤}
 use Rattle.report.proofs.line.Goals as goal
 
--- LEFT slice-aggregate-with-word
-slice-aggregate-with-word : tie.Need-slice-aggregate-with-word
-slice-aggregate-with-word c = search rules
-
--- LEFT slice-aggregate-with-word-2
-slice-aggregate-with-word-2 : tie.Need-slice-aggregate-with-word-2
-slice-aggregate-with-word-2 c = search rules
-
--- LEFT slice-aggregate-with-word-3
-slice-aggregate-with-word-3 : tie.Need-slice-aggregate-with-word-3
-slice-aggregate-with-word-3 c = search rules
-
--- LEFT slice-aggregate-with-word-4
-slice-aggregate-with-word-4 : tie.Need-slice-aggregate-with-word-4
-slice-aggregate-with-word-4 c = search rules
-
 pub returns-in-Accepted : goal.returns-in-Accepted
 unfolding bytes_of
 returns-in-Accepted c =
