@@ -3,7 +3,11 @@
 ghost use Rattle.std.specs.Prelude.{◌≡◌, length};
 ghost use Rattle.io.specs.Counts.{IsPrefixLen};
 
-use libc::STDOUT_FILENO;
+use std::io::{ErrorKind, Read};
+use std::rt::Files;
+use std::{fs, io};
+
+mod failure;
 
 // One byte more than the largest model has: enough to refuse a file that is too long.
 pub fn model_buffer() -> [u8; 20993]
@@ -19,95 +23,130 @@ pub fn estimate_buffer() -> [u8; 8705]
     [0; 8705]
 }
 
-// How many bytes of a file stand in the buffer, at most its length: none of a file that cannot be opened.
-pub fn load(path: &[u8], buffer: &mut [u8]) -> usize
+// A file that is open for reading. The library's paths are text, so a path that is not UTF-8 opens no file.
+fn open<R: Files>(rt: &R, path: &[u8]) -> io::Result<R::File> {
+    match std::str::from_utf8(path) {
+        Ok(text) => fs::open(rt, text),
+        Err(_) => Err(io::Error::from(ErrorKind::InvalidFilename)),
+    }
+}
+
+// How many bytes one read put at the front of the buffer: none at the file's end, and none where the read fails.
+fn read_some<F: Read>(file: &mut F, buffer: &mut [u8]) -> usize
     ensures { IsPrefixLen result buffer.new }
 {
-    let file = os::open_read(path);
-    if file < 0 {
-        return 0;
+    file.read(buffer).unwrap_or(0)
+}
+
+// How many bytes of a file stand at the front of the buffer once it is full, the file ends or a read fails.
+fn read_full<F: Read>(file: &mut F, buffer: &mut [u8]) -> usize
+    ensures { IsPrefixLen result buffer.new }
+{
+    let mut done = 0;
+    while done < buffer.len() {
+        let n = read_some(file, &mut buffer[done..]);
+        if n == 0 {
+            break;
+        }
+        done += n;
     }
-    let n = io::read_full(file, &mut *buffer);
-    libc::close(file);
-    n
+    done
+}
+
+// How many bytes of a file stand in the buffer, at most its length: none of a file that cannot be opened.
+pub fn load<R: Files>(rt: &R, path: &[u8], buffer: &mut [u8]) -> usize
+    ensures { IsPrefixLen result buffer.new }
+{
+    let Ok(mut file) = open(rt, path) else {
+        return 0;
+    };
+    read_full(&mut file, buffer)
 }
 
 // Whether a file is missing or can be read; where it is there and cannot, as a folder cannot, a line on standard error says why.
-fn readable(path: &[u8]) -> bool {
-    let file = os::open_read(path);
-    if file < 0 {
-        let missing = os::errno() == libc::ENOENT;
-        if !missing {
-            os::fail(path);
+fn readable<R: Files + Eprint>(rt: &R, path: &[u8]) -> bool {
+    let mut file = match open(rt, path) {
+        Ok(file) => file,
+        Err(e) => {
+            let missing = e.kind() == ErrorKind::NotFound;
+            if !missing {
+                failure::tell(rt, path, e);
+            }
+            return missing;
         }
-        return missing;
-    }
+    };
     let mut first = [0u8; 1];
-    let got = libc::read(file, &mut first);
-    if got < 0 {
-        os::fail(path);
+    match file.read(&mut first) {
+        Ok(_) => true,
+        Err(e) => {
+            failure::tell(rt, path, e);
+            false
+        }
     }
-    libc::close(file);
-    0 <= got
 }
 
 // Bytes, as they are.
-pub fn write(bytes: &[u8]) {
-    io::write_all(STDOUT_FILENO, bytes);
+pub fn write<R: Print>(rt: &R, bytes: &[u8]) {
+    let _ = rt.write_all(bytes);
+}
+
+// A number in decimal.
+fn decimal<R: Print>(rt: &R, n: u64) {
+    let _ = rt.print(n);
 }
 
 // A space and a number in decimal.
-pub fn number(n: u64) {
-    write(b" ");
-    io::print_decimal(STDOUT_FILENO, n);
+pub fn number<R: Print>(rt: &R, n: u64) {
+    write(rt, b" ");
+    decimal(rt, n);
 }
 
 // A space and the members of s, ascending, in braces with commas between.
-pub fn set(s: u64) {
-    write(b" {");
+pub fn set<R: Print>(rt: &R, s: u64) {
+    write(rt, b" {");
     let mut left = s;
     while left != 0 {
         let n = sets::lowest(left);
-        io::print_decimal(STDOUT_FILENO, n.0 as u64);
+        decimal(rt, n.0 as u64);
         left = sets::without_lowest(left);
         if left != 0 {
-            write(b",");
+            write(rt, b",");
         }
     }
-    write(b"}");
+    write(rt, b"}");
 }
 
-pub fn end_line() {
-    write(b"\n");
+pub fn end_line<R: Print>(rt: &R) {
+    write(rt, b"\n");
 }
 
 // Bytes, and a line on standard error where they could not be written.
-fn write_answer(bytes: &[u8]) {
-    if !io::write_all(STDOUT_FILENO, bytes) {
-        os::fail(b"standard output");
+fn write_answer<R: Print + Eprint>(rt: &R, bytes: &[u8]) {
+    if let Err(e) = rt.write_all(bytes) {
+        failure::tell(rt, b"standard output", e);
     }
 }
 
 // The checker's line for two images.
-fn report(model: &[u8], estimate: &[u8]) {
+fn report<R: Print + Eprint>(rt: &R, model: &[u8], estimate: &[u8]) {
     let t = report::line(analysis::check(model, estimate));
     let n = t.len;
     let bytes = t.bytes;
-    write_answer(&bytes[..n]);
+    write_answer(rt, &bytes[..n]);
 }
 
 // The checker on two files. Of a file that is too long one byte past the limit is read, which is enough to refuse it.
-fn check_loaded(model_path: &[u8], estimate_path: &[u8]) {
+fn check_loaded<R: Files + Print + Eprint>(rt: &R, model_path: &[u8], estimate_path: &[u8]) {
     let mut model = model_buffer();
     let mut estimate = estimate_buffer();
-    let m = load(model_path, &mut model);
-    let e = load(estimate_path, &mut estimate);
-    report(&model[..m], &estimate[..e]);
+    let m = load(rt, model_path, &mut model);
+    let e = load(rt, estimate_path, &mut estimate);
+    report(rt, &model[..m], &estimate[..e]);
 }
 
 // The checker on two files: its line goes to standard output. A missing file counts as empty; for one that cannot be read there is no line.
-pub fn check_files(model_path: &[u8], estimate_path: &[u8]) {
-    if readable(model_path) & readable(estimate_path) {
-        check_loaded(model_path, estimate_path);
+pub fn check_files<R: Files + Print + Eprint>(rt: &R, model_path: &[u8], estimate_path: &[u8]) {
+    if readable(rt, model_path) & readable(rt, estimate_path) {
+        check_loaded(rt, model_path, estimate_path);
     }
 }

@@ -1,15 +1,17 @@
 #![tactic(auto)]
 // The checking program on ten pairs of files, 0.model and 0.estimate to 9.model and 9.estimate: a line for each.
-fn one(digit: u8) {
+use std::rt::Files;
+
+fn one<R: Files + Print + Eprint>(rt: &R, digit: u8) {
     let model = [digit, b'.', b'm', b'o', b'd', b'e', b'l'];
     let estimate = [digit, b'.', b'e', b's', b't', b'i', b'm', b'a', b't', b'e'];
-    programs::check_files(&model, &estimate);
+    programs::check_files(rt, &model, &estimate);
 }
 
-fn main() {
+fn main(rt: HostRuntime) {
     let mut i: u8 = 0;
     while i < 10 {
-        one(48 + i);
+        one(&rt, 48 + i);
         i += 1;
     }
 }

@@ -10,60 +10,61 @@ use programs::{end_line, number, write};
 use refusals::Answer;
 use sets::NameNo;
 use state::Held;
+use std::rt::Files;
 
 // A name, where it is bound: its number, and the held name's number and stamp.
-fn show_bound(n: NameNo, held: Held) {
+fn show_bound<R: Print>(rt: &R, n: NameNo, held: Held) {
     if held.0 != 0 {
-        write(b" name");
-        number(n.0 as u64);
-        number(state::number(held).0 as u64);
-        number(((held.0 - 1) / 64) as u64);
+        write(rt, b" name");
+        number(rt, n.0 as u64);
+        number(rt, state::number(held).0 as u64);
+        number(rt, ((held.0 - 1) / 64) as u64);
     }
 }
 
-fn show_word(word: u32) {
-    number(word as u64);
+fn show_word<R: Print>(rt: &R, word: u32) {
+    number(rt, word as u64);
 }
 
 // Thread t of a box record.
-fn show_thread(r: &[u32], t: usize)
+fn show_thread<R: Print>(rt: &R, r: &[u32], t: usize)
     requires { (length r.now ≡ record_length) × (t < slot_limit) }
 {
-    write(b" line");
-    number(state::line(r, t) as u64);
+    write(rt, b" line");
+    number(rt, state::line(r, t) as u64);
     let mut n = 0;
     while n < 60 {
         let name = NameNo(n);
-        show_bound(name, state::binding(r, t, name));
+        show_bound(rt, name, state::binding(r, t, name));
         n += 1;
     }
 }
 
 // The threads of a box record.
-fn show_threads(r: &[u32])
+fn show_threads<R: Print>(rt: &R, r: &[u32])
     requires { length r.now ≡ record_length }
 {
     let count = state::threads(r);
     let mut t = 0;
     while t < 16 {
         if t < count {
-            show_thread(r, t);
+            show_thread(rt, r, t);
         }
         t += 1;
     }
 }
 
-fn show_box(b: usize, r: &[u32])
+fn show_box<R: Print>(rt: &R, b: usize, r: &[u32])
     requires { length r.now ≡ record_length }
 {
-    write(b" box");
-    number(b as u64);
-    show_word(state::stamp(r));
-    show_threads(r);
+    write(rt, b" box");
+    number(rt, b as u64);
+    show_word(rt, state::stamp(r));
+    show_threads(rt, r);
 }
 
 // The first boxes of a state, and the end of the line.
-fn show_boxes(state: &[u32], boxes: usize) {
+fn show_boxes<R: Print>(rt: &R, state: &[u32], boxes: usize) {
     let mut b = 0;
     while b < boxes {
         let from = 1139 * b;
@@ -71,45 +72,55 @@ fn show_boxes(state: &[u32], boxes: usize) {
         if to > state.len() {
             break;
         }
-        show_box(b, &state[from..to]);
+        show_box(rt, b, &state[from..to]);
         b += 1;
     }
-    end_line();
+    end_line(rt);
 }
 
-fn show_byte(byte: u8) {
-    number(byte as u64);
+fn show_byte<R: Print>(rt: &R, byte: u8) {
+    number(rt, byte as u64);
 }
 
 // A call's answer: 0, or the refusal's number.
-fn show_answer(answer: Answer) {
-    write(b" answer");
+fn show_answer<R: Print>(rt: &R, answer: Answer) {
+    write(rt, b" answer");
     match answer {
-        Answer::NoRefusal => number(0),
-        Answer::Refused(x) => number(x.number as u64),
+        Answer::NoRefusal => number(rt, 0),
+        Answer::Refused(x) => number(rt, x.number as u64),
     }
 }
 
-fn step(image: &[u8], boxes: usize, state: &mut [u32], kind: u32, b: u32, t: u32, c: u32, u: u32) {
+fn step<R: Print>(
+    rt: &R,
+    image: &[u8],
+    boxes: usize,
+    state: &mut [u32],
+    kind: u32,
+    b: u32,
+    t: u32,
+    c: u32,
+    u: u32,
+) {
     let answer = reduction::step(image, &mut *state, kind, b, t, c, u);
-    write(b"move");
-    show_word(kind);
-    show_word(b);
-    show_word(t);
-    show_word(c);
-    show_word(u);
-    show_answer(answer);
-    show_boxes(&*state, boxes);
+    write(rt, b"move");
+    show_word(rt, kind);
+    show_word(rt, b);
+    show_word(rt, t);
+    show_word(rt, c);
+    show_word(rt, u);
+    show_answer(rt, answer);
+    show_boxes(rt, &*state, boxes);
 }
 
 // Each move of a list of numbers, five a move, by a step call of its own.
-fn steps(image: &[u8], boxes: usize, state: &mut [u32], numbers: &[u32]) {
+fn steps<R: Print>(rt: &R, image: &[u8], boxes: usize, state: &mut [u32], numbers: &[u32]) {
     let mut k = 0;
     while k < numbers.len() / 5 {
         let from = 5 * k;
         let to = from + 5;
         let m = &numbers[from..to];
-        step(image, boxes, &mut *state, m[0], m[1], m[2], m[3], m[4]);
+        step(rt, image, boxes, &mut *state, m[0], m[1], m[2], m[3], m[4]);
         k += 1;
     }
 }
@@ -123,26 +134,33 @@ fn put(words: &mut [u32], k: usize, word: u32) {
 }
 
 // A start, after which box 0 gets that last stamp.
-fn begin(image: &[u8], boxes: usize, state: &mut [u32], stamp: u32) {
+fn begin<R: Print>(rt: &R, image: &[u8], boxes: usize, state: &mut [u32], stamp: u32) {
     let answer = start::start(image, &mut *state);
     put(&mut *state, 0, stamp);
-    write(b"start");
-    show_answer(answer);
-    show_boxes(&*state, boxes);
+    write(rt, b"start");
+    show_answer(rt, answer);
+    show_boxes(rt, &*state, boxes);
 }
 
 // The answers of one run over the list.
-fn whole(image: &[u8], boxes: usize, state: &mut [u32], numbers: &[u32], answers: &mut [u8]) {
+fn whole<R: Print>(
+    rt: &R,
+    image: &[u8],
+    boxes: usize,
+    state: &mut [u32],
+    numbers: &[u32],
+    answers: &mut [u8],
+) {
     let answer = runs::run_numbers(image, &mut *state, numbers, &mut *answers);
-    write(b"run");
-    show_answer(answer);
-    write(b" answers");
+    write(rt, b"run");
+    show_answer(rt, answer);
+    write(rt, b" answers");
     let mut i = 0;
     while i < answers.len() {
-        show_byte(answers[i]);
+        show_byte(rt, answers[i]);
         i += 1;
     }
-    show_boxes(&*state, boxes);
+    show_boxes(rt, &*state, boxes);
 }
 
 fn digit(text: u8) -> u32 {
@@ -162,18 +180,25 @@ fn read_numbers(text: &[u8], numbers: &mut [u32]) {
 }
 
 // A list, by steps and by a run, each from a start.
-fn play(image: &[u8], stamp: u32, state: &mut [u32], numbers: &[u32], answers: &mut [u8]) {
+fn play<R: Print>(
+    rt: &R,
+    image: &[u8],
+    stamp: u32,
+    state: &mut [u32],
+    numbers: &[u32],
+    answers: &mut [u8],
+) {
     let read = model::read(image);
     let layout = read.layout;
     let boxes = layout.boxes;
-    begin(image, boxes, &mut *state, stamp);
-    steps(image, boxes, &mut *state, numbers);
-    begin(image, boxes, &mut *state, stamp);
-    whole(image, boxes, &mut *state, numbers, &mut *answers);
+    begin(rt, image, boxes, &mut *state, stamp);
+    steps(rt, image, boxes, &mut *state, numbers);
+    begin(rt, image, boxes, &mut *state, stamp);
+    whole(rt, image, boxes, &mut *state, numbers, &mut *answers);
 }
 
 // A list of at most 32 moves, ten bytes each.
-fn play_text(image: &[u8], text: &[u8], stamp: u32) {
+fn play_text<R: Print>(rt: &R, image: &[u8], text: &[u8], stamp: u32) {
     let count = text.len() / 10;
     if count > 32 {
         return;
@@ -184,6 +209,7 @@ fn play_text(image: &[u8], text: &[u8], stamp: u32) {
     read_numbers(text, &mut numbers);
     let all = 5 * count;
     play(
+        rt,
         image,
         stamp,
         &mut state,
@@ -192,31 +218,31 @@ fn play_text(image: &[u8], text: &[u8], stamp: u32) {
     );
 }
 
-fn list(model_path: &[u8], moves_path: &[u8], stamp: u32) {
+fn list<R: Files + Print>(rt: &R, model_path: &[u8], moves_path: &[u8], stamp: u32) {
     let mut image = programs::model_buffer();
     let mut text = programs::estimate_buffer();
-    let m = programs::load(model_path, &mut image);
-    let n = programs::load(moves_path, &mut text);
-    write(model_path);
-    write(b" ");
-    write(moves_path);
-    end_line();
-    play_text(&image[..m], &text[..n], stamp);
+    let m = programs::load(rt, model_path, &mut image);
+    let n = programs::load(rt, moves_path, &mut text);
+    write(rt, model_path);
+    write(rt, b" ");
+    write(rt, moves_path);
+    end_line(rt);
+    play_text(rt, &image[..m], &text[..n], stamp);
 }
 
-fn k(moves_path: &[u8]) {
-    list(b"k.blk", moves_path, 0);
+fn k<R: Files + Print>(rt: &R, moves_path: &[u8]) {
+    list(rt, b"k.blk", moves_path, 0);
 }
 
-fn main() {
-    k(b"intra.txt");
-    k(b"inter.txt");
-    k(b"refused.txt");
-    list(b"limits.blk", b"threads.txt", 0);
-    list(b"stamps.blk", b"new.txt", 65535);
-    list(b"stamps.blk", b"expose.txt", 65535);
-    list(b"stamps.blk", b"new.txt", 67108862);
-    list(b"stamps.blk", b"expose.txt", 67108862);
-    list(b"stamps.blk", b"new.txt", 67108864);
-    list(b"no.blk", b"intra.txt", 0);
+fn main(rt: HostRuntime) {
+    k(&rt, b"intra.txt");
+    k(&rt, b"inter.txt");
+    k(&rt, b"refused.txt");
+    list(&rt, b"limits.blk", b"threads.txt", 0);
+    list(&rt, b"stamps.blk", b"new.txt", 65535);
+    list(&rt, b"stamps.blk", b"expose.txt", 65535);
+    list(&rt, b"stamps.blk", b"new.txt", 67108862);
+    list(&rt, b"stamps.blk", b"expose.txt", 67108862);
+    list(&rt, b"stamps.blk", b"new.txt", 67108864);
+    list(&rt, b"no.blk", b"intra.txt", 0);
 }

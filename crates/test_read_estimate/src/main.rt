@@ -6,122 +6,123 @@ ghost use Rattle.std.specs.Prelude.{◌+◌, ◌*◌, ◌<◌, ◌≤◌, length
 use programs::{end_line, number, set, write};
 use refusals::Answer;
 use sets::NameNo;
+use std::rt::Files;
 
 // A set, and the end of its line.
-fn last_set(s: u64) {
-    set(s);
-    end_line();
+fn last_set<R: Print>(rt: &R, s: u64) {
+    set(rt, s);
+    end_line(rt);
 }
 
-fn rhos(image: &[u8], names: u8)
+fn rhos<R: Print>(rt: &R, image: &[u8], names: u8)
     requires { (512 ≤ length image.now) × (names ≤ 60) }
 {
     let mut n: u8 = 0;
     while n < names {
-        write(b"rho");
-        number(n as u64);
-        last_set(estimate::rho(image, NameNo(n)));
+        write(rt, b"rho");
+        number(rt, n as u64);
+        last_set(rt, estimate::rho(image, NameNo(n)));
         n += 1;
     }
 }
 
-fn epss(image: &[u8], names: u8, b: usize)
+fn epss<R: Print>(rt: &R, image: &[u8], names: u8, b: usize)
     requires { (512 * (3 + 2 * b) ≤ length image.now) × (names ≤ 60) × (b < 8) }
 {
     let mut n: u8 = 0;
     while n < names {
-        write(b"eps");
-        number(b as u64);
-        number(n as u64);
-        last_set(estimate::eps(image, b, NameNo(n)));
+        write(rt, b"eps");
+        number(rt, b as u64);
+        number(rt, n as u64);
+        last_set(rt, estimate::eps(image, b, NameNo(n)));
         n += 1;
     }
 }
 
-fn kaps(image: &[u8], names: u8, b: usize)
+fn kaps<R: Print>(rt: &R, image: &[u8], names: u8, b: usize)
     requires { (512 * (3 + 2 * b) ≤ length image.now) × (names ≤ 60) × (b < 8) }
 {
     let mut n: u8 = 0;
     while n < names {
-        write(b"kap");
-        number(b as u64);
-        number(n as u64);
-        last_set(estimate::kap(image, b, NameNo(n)));
+        write(rt, b"kap");
+        number(rt, b as u64);
+        number(rt, n as u64);
+        last_set(rt, estimate::kap(image, b, NameNo(n)));
         n += 1;
     }
 }
 
-fn one_box(image: &[u8], names: u8, b: usize)
+fn one_box<R: Print>(rt: &R, image: &[u8], names: u8, b: usize)
     requires { (512 * (3 + 2 * b) ≤ length image.now) × (names ≤ 60) × (b < 8) }
 {
-    write(b"shown");
-    number(b as u64);
-    last_set(estimate::shown(image, b));
-    write(b"hidden");
-    number(b as u64);
-    last_set(estimate::hidden(image, b));
-    epss(image, names, b);
-    kaps(image, names, b);
+    write(rt, b"shown");
+    number(rt, b as u64);
+    last_set(rt, estimate::shown(image, b));
+    write(rt, b"hidden");
+    number(rt, b as u64);
+    last_set(rt, estimate::hidden(image, b));
+    epss(rt, image, names, b);
+    kaps(rt, image, names, b);
 }
 
-fn all(image: &[u8], names: u8, boxes: usize)
+fn all<R: Print>(rt: &R, image: &[u8], names: u8, boxes: usize)
     requires { (512 * (1 + 2 * boxes) ≤ length image.now) × (names ≤ 60) × (boxes ≤ 8) }
 {
-    rhos(image, names);
+    rhos(rt, image, names);
     let mut b = 0;
     while b < boxes {
-        one_box(image, names, b);
+        one_box(rt, image, names, b);
         b += 1;
     }
 }
 
-fn refused(image: &[u8], number_of: u8, place: usize, second: usize) {
-    write(image);
-    number(number_of as u64);
-    number(place as u64);
-    number(second as u64);
-    end_line();
+fn refused<R: Print>(rt: &R, image: &[u8], number_of: u8, place: usize, second: usize) {
+    write(rt, image);
+    number(rt, number_of as u64);
+    number(rt, place as u64);
+    number(rt, second as u64);
+    end_line(rt);
 }
 
-fn show(image: &[u8], names: usize, boxes: usize) {
+fn show<R: Print>(rt: &R, image: &[u8], names: usize, boxes: usize) {
     match estimate::read(image, names, boxes) {
         Answer::NoRefusal => {
             if names <= 60 {
                 if boxes <= 8 {
                     if 512 * (1 + 2 * boxes) <= image.len() {
-                        all(image, names as u8, boxes);
+                        all(rt, image, names as u8, boxes);
                     }
                 }
             }
         }
-        Answer::Refused(r) => refused(b"refused estimate", r.number, r.place, 0),
+        Answer::Refused(r) => refused(rt, b"refused estimate", r.number, r.place, 0),
     }
 }
 
-fn pair(model: &[u8], image: &[u8]) {
+fn pair<R: Print>(rt: &R, model: &[u8], image: &[u8]) {
     let read = model::read(model);
     let layout = read.layout;
     let answer = read.answer;
     match answer {
-        Answer::NoRefusal => show(image, layout.names, layout.boxes),
-        Answer::Refused(r) => refused(b"refused model", r.number, r.place, r.second),
+        Answer::NoRefusal => show(rt, image, layout.names, layout.boxes),
+        Answer::Refused(r) => refused(rt, b"refused model", r.number, r.place, r.second),
     }
 }
 
-fn one(digit: u8) {
+fn one<R: Files + Print>(rt: &R, digit: u8) {
     let model = [digit, b'.', b'm', b'o', b'd', b'e', b'l'];
     let image = [digit, b'.', b'e', b's', b't', b'i', b'm', b'a', b't', b'e'];
     let mut first = programs::model_buffer();
     let mut second = programs::estimate_buffer();
-    let m = programs::load(&model, &mut first);
-    let e = programs::load(&image, &mut second);
-    pair(&first[..m], &second[..e]);
+    let m = programs::load(rt, &model, &mut first);
+    let e = programs::load(rt, &image, &mut second);
+    pair(rt, &first[..m], &second[..e]);
 }
 
-fn main() {
+fn main(rt: HostRuntime) {
     let mut i: u8 = 0;
     while i < 6 {
-        one(48 + i);
+        one(&rt, 48 + i);
         i += 1;
     }
 }

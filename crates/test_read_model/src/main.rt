@@ -11,51 +11,52 @@ use programs::{end_line, number, set, write};
 use records::{Line, Site};
 use refusals::Answer;
 use sets::NameNo;
+use std::rt::Files;
 
-fn show_site(b: usize, i: usize, s: Site) {
-    write(b"site");
-    number(b as u64);
-    number(i as u64);
-    number(s.subject.0 as u64);
-    number(s.flag as u64);
-    set(s.names);
-    end_line();
+fn show_site<R: Print>(rt: &R, b: usize, i: usize, s: Site) {
+    write(rt, b"site");
+    number(rt, b as u64);
+    number(rt, i as u64);
+    number(rt, s.subject.0 as u64);
+    number(rt, s.flag as u64);
+    set(rt, s.names);
+    end_line(rt);
 }
 
-fn show_line(b: usize, i: usize, l: Line) {
-    write(b"line");
-    number(b as u64);
-    number(i as u64);
-    number(l.op as u64);
-    number(l.name1.0 as u64);
-    number(l.name2.0 as u64);
-    number(l.child1 as u64);
-    number(l.child2 as u64);
-    set(l.names);
-    end_line();
+fn show_line<R: Print>(rt: &R, b: usize, i: usize, l: Line) {
+    write(rt, b"line");
+    number(rt, b as u64);
+    number(rt, i as u64);
+    number(rt, l.op as u64);
+    number(rt, l.name1.0 as u64);
+    number(rt, l.name2.0 as u64);
+    number(rt, l.child1 as u64);
+    number(rt, l.child2 as u64);
+    set(rt, l.names);
+    end_line(rt);
 }
 
-fn show_sites(image: &[u8], b: usize, k: usize, n: usize)
+fn show_sites<R: Print>(rt: &R, image: &[u8], b: usize, k: usize, n: usize)
     requires { SitesAt image.now b k n }
 {
     let mut i = 0;
     while i < n {
-        show_site(b, i, records::inside::site(image, k, i));
+        show_site(rt, b, i, records::inside::site(image, k, i));
         i += 1;
     }
 }
 
-fn show_lines(image: &[u8], b: usize, k: usize, n: usize)
+fn show_lines<R: Print>(rt: &R, image: &[u8], b: usize, k: usize, n: usize)
     requires { LinesAt image.now b k n }
 {
     let mut i = 0;
     while i < n {
-        show_line(b, i, records::inside::line(image, k, i));
+        show_line(rt, b, i, records::inside::line(image, k, i));
         i += 1;
     }
 }
 
-fn show_box(image: &[u8], l: Layout, b: usize)
+fn show_box<R: Print>(rt: &R, image: &[u8], l: Layout, b: usize)
     requires { (read_model image.now ≡ none) × LayoutOf image.now l × (b < l.boxes) }
 {
     let at = l.at;
@@ -64,88 +65,88 @@ fn show_box(image: &[u8], l: Layout, b: usize)
     let k = at[b];
     let few = sites[b];
     let n = lines[b];
-    write(b"box");
-    number(b as u64);
-    write(b" sites");
-    number(few as u64);
-    write(b" lines");
-    number(n as u64);
-    end_line();
-    show_sites(image, b, k, few);
-    show_lines(image, b, k, n);
+    write(rt, b"box");
+    number(rt, b as u64);
+    write(rt, b" sites");
+    number(rt, few as u64);
+    write(rt, b" lines");
+    number(rt, n as u64);
+    end_line(rt);
+    show_sites(rt, image, b, k, few);
+    show_lines(rt, image, b, k, n);
 }
 
-fn show_boxes(image: &[u8], l: Layout)
+fn show_boxes<R: Print>(rt: &R, image: &[u8], l: Layout)
     requires { (read_model image.now ≡ none) × LayoutOf image.now l }
 {
     let boxes = l.boxes;
-    write(b"boxes");
-    number(boxes as u64);
-    end_line();
+    write(rt, b"boxes");
+    number(rt, boxes as u64);
+    end_line(rt);
     let mut b = 0;
     while b < boxes {
-        show_box(image, l, b);
+        show_box(rt, image, l, b);
         b += 1;
     }
 }
 
-fn show_names(image: &[u8], l: Layout)
+fn show_names<R: Print>(rt: &R, image: &[u8], l: Layout)
     requires { (read_model image.now ≡ none) × LayoutOf image.now l }
 {
     let names = l.names;
-    write(b"names");
-    number(names as u64);
-    end_line();
+    write(rt, b"names");
+    number(rt, names as u64);
+    end_line(rt);
     let mut n = 0;
     while n < names {
         let kind = records::inside::kind(image, NameNo(n as u8));
-        write(b"name");
-        number(n as u64);
-        number(kind);
-        end_line();
+        write(rt, b"name");
+        number(rt, n as u64);
+        number(rt, kind);
+        end_line(rt);
         n += 1;
     }
 }
 
-fn show(image: &[u8]) {
+fn show<R: Print>(rt: &R, image: &[u8]) {
     let r = model::read(image);
     let a = r.answer;
     let l = r.layout;
     match a {
         Answer::NoRefusal => {
-            show_names(image, l);
-            show_boxes(image, l);
+            show_names(rt, image, l);
+            show_boxes(rt, image, l);
         }
         Answer::Refused(x) => {
-            write(b"refused model");
-            number(x.number as u64);
-            number(x.place as u64);
-            number(x.second as u64);
-            end_line();
+            write(rt, b"refused model");
+            number(rt, x.number as u64);
+            number(rt, x.place as u64);
+            number(rt, x.second as u64);
+            end_line(rt);
         }
     }
 }
 
-fn file(path: &[u8]) {
+fn file<R: Files + Print>(rt: &R, path: &[u8]) {
     let mut buffer = programs::model_buffer();
-    let n = programs::load(path, &mut buffer);
-    write(path);
-    end_line();
-    show(&buffer[..n]);
+    let n = programs::load(rt, path, &mut buffer);
+    write(rt, path);
+    end_line(rt);
+    show(rt, &buffer[..n]);
 }
 
-fn main() {
-    file(b"accepted.blk");
-    file(b"length.blk");
-    file(b"missing.blk");
-    file(b"check.blk");
-    file(b"heading.blk");
-    file(b"left_over.blk");
-    file(b"count.blk");
-    file(b"stray.blk");
-    file(b"site.blk");
-    file(b"line.blk");
-    file(b"tree.blk");
-    file(b"reach.blk");
-    file(b"full.blk");
+fn main(rt: HostRuntime) {
+    file(&rt, b"accepted.blk");
+    file(&rt, b"length.blk");
+    file(&rt, b"missing.blk");
+    file(&rt, b"check.blk");
+    file(&rt, b"heading.blk");
+    file(&rt, b"left_over.blk");
+    file(&rt, b"count.blk");
+    file(&rt, b"stray.blk");
+    file(&rt, b"site.blk");
+    file(&rt, b"line.blk");
+    file(&rt, b"tree.blk");
+    file(&rt, b"reach.blk");
+    file(&rt, b"full.blk");
 }
