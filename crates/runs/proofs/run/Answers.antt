@@ -1,5 +1,6 @@
 -- `runs::run` meets its contract. Assumes nothing.
-use Rattle.runs.proofs.RunLaws.{MovesRun, moves_start, moves_end, list_of_moves}
+use Rattle.std.proofs.Common.{refl}
+use Rattle.runs.proofs.RunLaws.{MovesRun, moves_start, moves_turn, moves_end, list_of_moves}
 use Rattle.runs.proofs.run.Goals as goal
 
 pub begin-begun-requires : goal.begin-begun-requires
@@ -24,7 +25,7 @@ pub loop-i-smaller : goal.loop-i-smaller
 loop-i-smaller c = search list_of_moves
 
 pub loop-i-preserved : goal.loop-i-preserved
-loop-i-preserved c = search list_of_moves
+loop-i-preserved c = moves_turn _ _ _ _ _ _ _ _ c.loop-i.invariant c.loop-i-test.true _ refl _ _ c.turn_at.ensures
 
 pub returns : goal.returns
 returns c = moves_end _ _ _ _ _ _ _ _ c.loop-i.invariant _ (search list_of_moves) c.begin-begun.ensures
