@@ -6,8 +6,7 @@ use mathlib.Core.Option.{Option}
 use Prim.Native.Nat.{ℕ, ◌≤◌, ◌<◌}
 use native.Mathlib.Omega.{arith}
 use borrow.Author.Rules.{rules}
-use lib.ListN.{length, take, drop}
-use lib.Seq.{take-length}
+use lib.ListN.{length, drop}
 use Rattle.definitions.specs.Bounded.{◌upto◌}
 use Rattle.definitions.specs.Clauses as clauses
 use Rattle.definitions.specs.ShutOff.{refused_in, refused_block}
@@ -38,12 +37,12 @@ bytes_by : List ℕ → List ℕ → Bool → List ℕ
 bytes_by part buffer b = elim b [ true ↦ part ++ drop (length part) buffer | false ↦ buffer ]
 
 pub fits_both : (p part buffer out : List ℕ) (n r : ℕ) → part ≡ p → length part ≤ length buffer → n ≡ length part
-    → out ≡ take (length part) part ++ drop (length part) buffer → r ≡ pack 0 0 n 0 → (r ≡ pack_copied p buffer) × (out ≡ copied p buffer)
+    → out ≡ part ++ drop (length part) buffer → r ≡ pack 0 0 n 0 → (r ≡ pack_copied p buffer) × (out ≡ copied p buffer)
 unfolding pack_copied copied answer_by bytes_by
 fits_both p part buffer out n r e h l q a =
     let t : (length p upto length buffer) ≡ true = true_of (length p upto length buffer) ((upto_iff (length p) (length buffer)).1 (omega (arith, ap length e))) in (
       a ∙ ap (λ (m : ℕ). pack 0 0 m 0) (l ∙ ap length e) ∙ sym (ap (answer_by p) t),
-      q ∙ ap₂ ◌++◌ (take-length part ∙ e) (ap (λ (x : List ℕ). drop (length x) buffer) e) ∙ sym (ap (bytes_by p buffer) t),
+      q ∙ ap₂ ◌++◌ e (ap (λ (x : List ℕ). drop (length x) buffer) e) ∙ sym (ap (bytes_by p buffer) t),
     )
 
 pub long_both : (p part buffer : List ℕ) → part ≡ p → length buffer < length part → (7 ≡ pack_copied p buffer) × (buffer ≡ copied p buffer)
