@@ -1,12 +1,17 @@
 # For the scripts of examples/, tools/ and .ci/ to source, in the repository's root.
 
-# What rt says, on standard output. A program is built by running it; what it writes there is nobody's.
+# What rt says, on standard output. A program is built by running it; what that writes is shown only where rt fails.
 built() { # lib or run
-  if [ "$1" = run ]; then
-    rt run < /dev/null 2>&1 > /dev/null
-  else
-    rt "$1" 2>&1
+  local said code=0
+  if [ "$1" = lib ]; then
+    rt lib 2>&1
+    return
   fi
+  said=$(mktemp)
+  rt run < /dev/null 2>&1 > "$said" || code=$?
+  [ $code = 0 ] || cat "$said"
+  rm -f "$said"
+  return $code
 }
 
 # Proves and builds crate NAME where FILE is missing or older than something under crates/, and copies what was built to FILE: a library
