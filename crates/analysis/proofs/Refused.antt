@@ -20,9 +20,9 @@ use Rattle.definitions.proofs.Bounded.{and_iff, upto_iff, true_of, false_of}
 use Rattle.refusals.specs.declared.Refusal.{Refusal}
 use Rattle.refusals.specs.Answers.{refusal_in}
 use Rattle.record_clauses.specs.declared.Broken.{Broken}
-use Rattle.analysis.specs.declared.Verdict.{Verdict}
-use Rattle.analysis.specs.declared.Verdict.TheVariants.{Accepted, Breaks, RefusedModel, RefusedEstimate}
-use Rattle.analysis.specs.Answers.{verdict_in}
+use Rattle.analysis.specs.declared.NotAccepted.{NotAccepted}
+use Rattle.analysis.specs.declared.NotAccepted.TheVariants.{Breaks, RefusedModel, RefusedEstimate}
+use Rattle.analysis.specs.Answers.{not_accepted_in}
 use Rattle.analysis.specs.Known.{BlockThere, RefusedThere}
 use Rattle.analysis.specs.Places.{At, Stands, RefusedStands}
 use Rattle.analysis.proofs.There.{model_there, estimate-there}
@@ -63,50 +63,49 @@ module _ (model image r : Bor (List ℕ)) (k : ℕ) where
 pub if_there : (image : List ℕ) (n k : ℕ) → BlockThere image n k → 2 ≤ n → n ≤ 5 → 512 * (k + 1) ≤ length image
 if_there image n k w l h = w.there l h
 
--- the bytes for a verdict
-module _ (model estimate p : List ℕ) (v : Verdict) where
-  pub part-accepted : v ≡ Accepted → p ≡ [] → p ≡ shut.refused_in model estimate (verdict_in v)
-  part-accepted q e = e ∙ sym (ap (λ (w : Verdict). shut.refused_in model estimate (verdict_in w)) q)
-
-  pub part-breaks : (x : Broken) → v ≡ Breaks x → p ≡ [] → p ≡ shut.refused_in model estimate (verdict_in v)
-  part-breaks x q e = e ∙ sym (ap (λ (w : Verdict). shut.refused_in model estimate (verdict_in w)) q)
+-- the bytes where the estimate is not accepted
+module _ (model estimate p : List ℕ) (e : NotAccepted) where
+  pub part-breaks : (x : Broken) → e ≡ Breaks x → p ≡ [] → p ≡ shut.refused_in model estimate (not_accepted_in e)
+  part-breaks x q z = z ∙ sym (ap (λ (w : NotAccepted). shut.refused_in model estimate (not_accepted_in w)) q)
 
   module _ (x : Refusal) where
-    pub part_model : v ≡ RefusedModel x → p ≡ shut.refused_part model (paper.refusal x.number x.place 0) → p ≡ shut.refused_in model estimate (verdict_in v)
+    pub part_model : e ≡ RefusedModel x → p ≡ shut.refused_part model (paper.refusal x.number x.place 0) → p ≡ shut.refused_in model estimate (not_accepted_in e)
     unfolding shut.refused_part
-    part_model q e = e ∙ sym (ap (λ (w : Verdict). shut.refused_in model estimate (verdict_in w)) q)
+    part_model q z = z ∙ sym (ap (λ (w : NotAccepted). shut.refused_in model estimate (not_accepted_in w)) q)
 
-    pub part-estimate : v ≡ RefusedEstimate x → p ≡ shut.refused_part estimate (paper.refusal x.number x.place 0) → p ≡ shut.refused_in model estimate (verdict_in v)
+    pub part-estimate : e ≡ RefusedEstimate x → p ≡ shut.refused_part estimate (paper.refusal x.number x.place 0)
+        → p ≡ shut.refused_in model estimate (not_accepted_in e)
     unfolding shut.refused_part
-    part-estimate q e = e ∙ sym (ap (λ (w : Verdict). shut.refused_in model estimate (verdict_in w)) q)
+    part-estimate q z = z ∙ sym (ap (λ (w : NotAccepted). shut.refused_in model estimate (not_accepted_in w)) q)
 
 -- and where they stand
-module _ (model estimate r : Bor (List ℕ)) (v : Verdict) where
-  as_verdict : (w : Verdict) → v ≡ w → RefusedStands model estimate (verdict_in w) r → RefusedStands model estimate (verdict_in v) r
-  as_verdict w q s = subst (λ (x : Verdict). RefusedStands model estimate (verdict_in x) r) (sym q) s
-
-  pub stands_accepted : v ≡ Accepted → At r model 0 → RefusedStands model estimate (verdict_in v) r
+module _ (model estimate r : Bor (List ℕ)) where
+  pub stands_accepted : At r model 0 → RefusedStands model estimate cl.accepted r
   unfolding RefusedStands
-  stands_accepted q a = as_verdict Accepted q a
+  stands_accepted a = a
 
-  pub stands_breaks : (x : Broken) → v ≡ Breaks x → At r model 0 → RefusedStands model estimate (verdict_in v) r
-  unfolding RefusedStands
-  stands_breaks x q a = as_verdict (Breaks x) q a
+  module _ (e : NotAccepted) where
+    as_verdict : (w : NotAccepted) → e ≡ w → RefusedStands model estimate (not_accepted_in w) r → RefusedStands model estimate (not_accepted_in e) r
+    as_verdict w q s = subst (λ (x : NotAccepted). RefusedStands model estimate (not_accepted_in x) r) (sym q) s
 
-  pub stands_model : (x : Refusal) → v ≡ RefusedModel x → Stands model model r x.place → RefusedStands model estimate (verdict_in v) r
-  unfolding RefusedStands
-  stands_model x q s = as_verdict (RefusedModel x) q s
+    pub stands_breaks : (x : Broken) → e ≡ Breaks x → At r model 0 → RefusedStands model estimate (not_accepted_in e) r
+    unfolding RefusedStands
+    stands_breaks x q a = as_verdict (Breaks x) q a
 
-  pub stands_estimate : (x : Refusal) → v ≡ RefusedEstimate x → Stands model estimate r x.place → RefusedStands model estimate (verdict_in v) r
-  unfolding RefusedStands
-  stands_estimate x q s = as_verdict (RefusedEstimate x) q s
+    pub stands_model : (x : Refusal) → e ≡ RefusedModel x → Stands model model r x.place → RefusedStands model estimate (not_accepted_in e) r
+    unfolding RefusedStands
+    stands_model x q s = as_verdict (RefusedModel x) q s
 
-module _ (model estimate : List ℕ) (v : Verdict) (w : RefusedThere model estimate (verdict_in v)) (r : Refusal) where
-  pub if_model : v ≡ RefusedModel r → BlockThere model r.number r.place
-  if_model q = w.in_model (refusal_in r) (ap verdict_in q)
+    pub stands_estimate : (x : Refusal) → e ≡ RefusedEstimate x → Stands model estimate r x.place → RefusedStands model estimate (not_accepted_in e) r
+    unfolding RefusedStands
+    stands_estimate x q s = as_verdict (RefusedEstimate x) q s
 
-  pub if_estimate : v ≡ RefusedEstimate r → BlockThere estimate r.number r.place
-  if_estimate q = w.in_estimate (refusal_in r) (ap verdict_in q)
+module _ (model estimate : List ℕ) (e : NotAccepted) (w : RefusedThere model estimate (not_accepted_in e)) (r : Refusal) where
+  pub if_model : e ≡ RefusedModel r → BlockThere model r.number r.place
+  if_model q = w.in_model (refusal_in r) (ap not_accepted_in q)
+
+  pub if_estimate : e ≡ RefusedEstimate r → BlockThere estimate r.number r.place
+  if_estimate q = w.in_estimate (refusal_in r) (ap not_accepted_in q)
 
 -- who is refused, by the verdict
 from_model : (a b : Option paper.Refusal) (r : paper.Refusal) → cl.after_model a (cl.after_estimate b cl.accepted) ≡ cl.refused_model r → a ≡ some r
@@ -162,4 +161,4 @@ stands_is model estimate r v ev s = subst (λ (w : cl.Verdict). RefusedStands mo
 
 pub ruleset blocks = (rules, whole_is, empty_stands, block_stands, part-below, part_above, part_in, if_there)
 
-pub ruleset parts = (rules, part-accepted, part-breaks, part_model, part-estimate, stands_accepted, stands_breaks, stands_model, stands_estimate, if_model, if_estimate, there-both, part-is, stands_is)
+pub ruleset parts = (rules, part-breaks, part_model, part-estimate, stands_accepted, stands_breaks, stands_model, stands_estimate, if_model, if_estimate, there-both, part-is, stands_is)

@@ -2,14 +2,6 @@
 use Rattle.std.specs.Prelude.{◌≡◌, List, ℕ, ◌+◌, ◌*◌, ◌≤◌, length}
 use Rattle.definitions.specs.Answer.{Refusal}
 use Rattle.definitions.specs.Clauses.{Verdict, refused_model, refused_estimate}
-use Rattle.refusals.specs.declared.Answer.{Answer}
-use Rattle.refusals.specs.declared.Answer.TheVariants.{NoRefusal}
-use Rattle.layouts.specs.declared.Layout.{Layout}
-use Rattle.layouts.specs.LayoutOf.{LayoutOf}
-
--- the layout is the model's where the model is not refused
-pub record LayoutIfRead (model : List ℕ) (answer : Answer) (l : Layout) : Type 0 where
-  pub layout : answer ≡ NoRefusal → LayoutOf model l
 
 -- a refused block is there whole
 pub record BlockThere (image : List ℕ) (number k : ℕ) : Type 0 where

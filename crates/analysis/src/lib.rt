@@ -1,62 +1,107 @@
 #![tactic(auto)]
 // The checker. No call asks anything of its arguments: any bytes, any box.
-ghost use Rattle.std.specs.Prelude.{◌≡◌};
+ghost use Rattle.std.specs.Prelude.{◌≡◌, IfOk};
+ghost use Rattle.definitions.specs.Image.{boxes_of};
 ghost use Rattle.definitions.specs.Clauses as clauses;
 ghost use Rattle.definitions.specs.ShutOff as shut;
+ghost use Rattle.layouts.specs.LayoutOf.{LayoutOf};
+ghost use Rattle.clauses.specs.Known.{EstimateOfNames};
+ghost use Rattle.first_broken.specs.Known.{Unrefused};
 ghost use Rattle.analysis.specs.Answers.{verdict_in, reply_in};
 ghost use Rattle.analysis.specs.Places.{RefusedStands};
 
+use layouts::Layout;
 use record_clauses::Broken;
 use refusals::Refusal;
 
-mod answers;
 pub mod parts;
 
-#[derive(Clone, Copy)]
-pub enum Verdict {
-    Accepted,
-    Breaks(Broken),
+// Why an estimate is not accepted: the model's refusal, else its own, else the first broken clause.
+#[derive(Clone, Copy, Debug, PartialEq, Eq)]
+pub enum NotAccepted {
     RefusedModel(Refusal),
     RefusedEstimate(Refusal),
+    Breaks(Broken),
 }
 
-// The question's answer: the checker's where that is not accepted; no such box; the box is shut off, or not.
-#[derive(Clone, Copy)]
-pub enum Reply {
-    NotAccepted(Verdict),
+// Why the question has neither yes nor no: the checker's answer, or there is no such box.
+#[derive(Clone, Copy, Debug, PartialEq, Eq)]
+pub enum NoReply {
+    NotAccepted(NotAccepted),
     Nobody,
-    Yes,
-    No,
 }
 
-// The checker: the model's refusal, else the estimate's, else the first broken clause, else accepted.
-pub fn check(model: &[u8], estimate: &[u8]) -> Verdict
+// The model's layout, where neither image is refused. No clause is tried.
+#[tactic(auto, using(crate::proofs::Replies::verdicts))]
+fn layout_read(model: &[u8], estimate: &[u8]) -> Result<Layout, NotAccepted>
+    ensures verdict { verdict_in result ≡ clauses.read_both model.now estimate.now }
+    ensures unrefused { IfOk result (λ l. Unrefused model.now estimate.now) }
+    ensures layout { IfOk result (λ l. LayoutOf model.now l) }
+{
+    let layout = match model::read(model) {
+        Ok(layout) => layout,
+        Err(r) => return Err(NotAccepted::RefusedModel(r)),
+    };
+    match estimate::read(estimate, layout.names, layout.boxes) {
+        Ok(()) => Ok(layout),
+        Err(r) => Err(NotAccepted::RefusedEstimate(r)),
+    }
+}
+
+// The model's layout, where neither image is refused and no clause is broken.
+#[tactic(auto, using(crate::proofs::Replies::verdicts))]
+fn layout_accepted(model: &[u8], estimate: &[u8]) -> Result<Layout, NotAccepted>
+    ensures verdict { verdict_in result ≡ clauses.check model.now estimate.now }
+    ensures unrefused { IfOk result (λ l. Unrefused model.now estimate.now) }
+    ensures layout { IfOk result (λ l. LayoutOf model.now l) }
+{
+    let layout = layout_read(model, estimate)?;
+    match first_broken::find(model, estimate, layout) {
+        Ok(()) => Ok(layout),
+        Err(x) => Err(NotAccepted::Breaks(x)),
+    }
+}
+
+// The checker: accepted, or why not.
+#[tactic(auto, using(crate::proofs::Replies::verdicts))]
+pub fn check(model: &[u8], estimate: &[u8]) -> Result<(), NotAccepted>
     ensures { verdict_in result ≡ clauses.check model.now estimate.now }
 {
-    let read = model::read(model);
-    let answer = read.answer;
-    let layout = read.layout;
-    answers::verdict(model, estimate, answer, layout)
+    layout_accepted(model, estimate)?;
+    Ok(())
 }
 
-// Both images are read: the model's refusal, else the estimate's, else accepted. No clause is tried.
-pub fn read_estimate(model: &[u8], estimate: &[u8]) -> Verdict
+// Both images are read, and no clause is tried.
+#[tactic(auto, using(crate::proofs::Replies::verdicts))]
+pub fn read_estimate(model: &[u8], estimate: &[u8]) -> Result<(), NotAccepted>
     ensures { verdict_in result ≡ clauses.read_both model.now estimate.now }
 {
-    let read = model::read(model);
-    let answer = read.answer;
-    let layout = read.layout;
-    answers::both(model, estimate, answer, layout)
+    layout_read(model, estimate)?;
+    Ok(())
+}
+
+// Whether box h of so many is shut off, where the estimate is accepted.
+#[tactic(auto, using(crate::proofs::Replies::box_replies))]
+fn shut_off_in(model: &[u8], estimate: &[u8], boxes: usize, h: usize) -> Result<bool, NoReply>
+    requires known { EstimateOfNames estimate.now boxes }
+    requires boxes { boxes ≡ boxes_of model.now }
+    ensures { reply_in result ≡ shut.box_reply model.now estimate.now h }
+{
+    if boxes <= h {
+        return Err(NoReply::Nobody);
+    }
+    Ok(links::shut_off(estimate, boxes, h))
 }
 
 // Whether box h is shut off.
-pub fn shut_off(model: &[u8], estimate: &[u8], h: u32) -> Reply
+#[tactic(auto, using(crate::proofs::Replies::replies))]
+pub fn shut_off(model: &[u8], estimate: &[u8], h: u32) -> Result<bool, NoReply>
     ensures { reply_in result ≡ shut.question model.now estimate.now h }
 {
-    let read = model::read(model);
-    let answer = read.answer;
-    let layout = read.layout;
-    answers::reply(model, estimate, answer, layout, h as usize)
+    match layout_accepted(model, estimate) {
+        Ok(layout) => shut_off_in(model, estimate, layout.boxes, h as usize),
+        Err(e) => Err(NoReply::NotAccepted(e)),
+    }
 }
 
 // The refused block, where both images have one lifetime.

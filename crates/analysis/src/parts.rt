@@ -3,11 +3,11 @@ ghost use Rattle.std.specs.Prelude.{◌≡◌, [], ◌+◌, ◌*◌, ◌≤◌, 
 ghost use Rattle.definitions.specs.Words.{block_of};
 ghost use Rattle.definitions.specs.Answer.{refusal};
 ghost use Rattle.definitions.specs.ShutOff as shut;
-ghost use Rattle.analysis.specs.Answers.{verdict_in};
+ghost use Rattle.analysis.specs.Answers.{not_accepted_in, verdict_in};
 ghost use Rattle.analysis.specs.Known.{BlockThere, RefusedThere};
 ghost use Rattle.analysis.specs.Places.{At, Stands, RefusedStands};
 
-use crate::Verdict;
+use crate::NotAccepted;
 
 fn nothing<'a>(image: &'a [u8]) -> &'a [u8]
     ensures { (result.now ≡ []) × At result image.entry 0 }
@@ -39,15 +39,27 @@ fn refused<'a>(model: &'a [u8], image: &'a [u8], number: u8, k: usize) -> &'a [u
     whole(image, k)
 }
 
+// What is handed back where the estimate is not accepted: for a broken clause an empty part of the model.
+#[tactic(auto, using(crate::proofs::Refused::parts))]
+fn of_refusal<'a>(model: &'a [u8], estimate: &'a [u8], e: NotAccepted) -> &'a [u8]
+    requires { RefusedThere model.now estimate.now (not_accepted_in e) }
+    ensures { (result.now ≡ shut.refused_in model.now estimate.now (not_accepted_in e)) × RefusedStands model.entry estimate.entry (not_accepted_in e) result }
+{
+    match e {
+        NotAccepted::Breaks(_) => nothing(model),
+        NotAccepted::RefusedModel(r) => refused(model, model, r.number, r.place),
+        NotAccepted::RefusedEstimate(r) => refused(model, estimate, r.number, r.place),
+    }
+}
+
 // What is handed back for a verdict: where there is no refused block, an empty part of the model.
-pub fn part<'a>(model: &'a [u8], estimate: &'a [u8], v: Verdict) -> &'a [u8]
+#[tactic(auto, using(crate::proofs::Refused::parts))]
+pub fn part<'a>(model: &'a [u8], estimate: &'a [u8], v: Result<(), NotAccepted>) -> &'a [u8]
     requires { RefusedThere model.now estimate.now (verdict_in v) }
     ensures { (result.now ≡ shut.refused_in model.now estimate.now (verdict_in v)) × RefusedStands model.entry estimate.entry (verdict_in v) result }
 {
     match v {
-        Verdict::Accepted => nothing(model),
-        Verdict::Breaks(_) => nothing(model),
-        Verdict::RefusedModel(r) => refused(model, model, r.number, r.place),
-        Verdict::RefusedEstimate(r) => refused(model, estimate, r.number, r.place),
+        Ok(()) => nothing(model),
+        Err(e) => of_refusal(model, estimate, e),
     }
 }

@@ -41,38 +41,38 @@ of_chains_same a b c d x y z w e f g h =
     step_same (31 * (31 * a + b) + c) (31 * (31 * x + y) + z) d w (step_same (31 * a + b) (31 * x + y) c z (step_same a x b y e f) g) h
 
 -- the 1 of the start and the first three words
-pub chains_start : (s : List ℕ) (at b c d : ℕ) → at + 504 ≤ length s → b ≡ word_at s at → c ≡ word_at s (at + 8) → d ≡ word_at s (at + 16)
-    → Chains s (check_from 1 (words_of 63 (drop at s))) (at + 24) 15 1 b c d
+pub chains_start : (s : List ℕ) (at p b c d : ℕ) → at + 504 ≤ length s → p ≡ at + 24 → b ≡ word_at s at → c ≡ word_at s (at + 8) → d ≡ word_at s (at + 16)
+    → Chains s (check_from 1 (words_of 63 (drop at s))) p 15 1 b c d
 unfolding of_chains
-chains_start s at b c d h e f g =
+chains_start s at p b c d h q e f g =
     let R = check_from 1 (words_of 63 (drop at s)) in
     let none : ToGo s R at 63 1 = record { room = h; rest = refl } in
     let one = turn s R at (at + 8) 63 62 1 b refl refl e none in
     let two = turn s R (at + 8) (at + 16) 62 61 (31 * 1 + b) c (omega arith) refl f one in
-    record { check = turn s R (at + 16) (at + 24) 61 60 (31 * (31 * 1 + b) + c) d (omega arith) refl g two }
+    record { check = turn s R (at + 16) p 61 60 (31 * (31 * 1 + b) + c) d (omega arith) refl g two }
 
 -- four words more, one to a chain
-pub chains_turn : (s : List ℕ) (R p n a b c d e f g h : ℕ) → Chains s R p n a b c d → 0 < n
+pub chains_turn : (s : List ℕ) (R p n q m a b c d e f g h : ℕ) → Chains s R p n a b c d → 0 < n → q ≡ p + 32 → m + 1 ≡ n
     → e ≡ (31 ^ 4 * a + word_at s p) % 2 ^ 64 → f ≡ (31 ^ 4 * b + word_at s (p + 8)) % 2 ^ 64 → g ≡ (31 ^ 4 * c + word_at s (p + 16)) % 2 ^ 64
-    → h ≡ (31 ^ 4 * d + word_at s (p + 24)) % 2 ^ 64 → Chains s R (p + 32) (n - 1) e f g h
+    → h ≡ (31 ^ 4 * d + word_at s (p + 24)) % 2 ^ 64 → Chains s R q m e f g h
 unfolding of_chains
-chains_turn s R p n a b c d e f g h k l ee ef eg eh =
-    let m = 4 * (n - 1) in
+chains_turn s R p n q m a b c d e f g h k l eq em ee ef eg eh =
+    let v = 4 * m in
     let j = of_chains a b c d in
     let x = word_at s p in
     let y = word_at s (p + 8) in
     let z = word_at s (p + 16) in
     let w = word_at s (p + 24) in
-    let one = turn s R p (p + 8) (4 * n) (m + 3) j x refl (omega arith) refl k.check in
-    let two = turn s R (p + 8) (p + 16) (m + 3) (m + 2) (31 * j + x) y (omega arith) (omega arith) refl one in
-    let three = turn s R (p + 16) (p + 24) (m + 2) (m + 1) (31 * (31 * j + x) + y) z (omega arith) (omega arith) refl two in
-    let four = turn s R (p + 24) (p + 32) (m + 1) m (31 * (31 * (31 * j + x) + y) + z) w (omega arith) refl refl three in
+    let one = turn s R p (p + 8) (4 * n) (v + 3) j x refl (omega arith) refl k.check in
+    let two = turn s R (p + 8) (p + 16) (v + 3) (v + 2) (31 * j + x) y (omega arith) (omega arith) refl one in
+    let three = turn s R (p + 16) (p + 24) (v + 2) (v + 1) (31 * (31 * j + x) + y) z (omega arith) (omega arith) refl two in
+    let four = turn s R (p + 24) q (v + 1) v (31 * (31 * (31 * j + x) + y) + z) w (omega arith) refl refl three in
     let shared : 31 * (31 * (31 * (31 * j + x) + y) + z) + w ≡ of_chains (31 ^ 4 * a + x) (31 ^ 4 * b + y) (31 ^ 4 * c + z) (31 ^ 4 * d + w) = omega arith in
     let reduced =
     of_chains_same e f g h (31 ^ 4 * a + x) (31 ^ 4 * b + y) (31 ^ 4 * c + z) (31 ^ 4 * d + w) (same e (31 ^ 4 * a + x) ee) (same f (31 ^ 4 * b + y) ef)
     (same g (31 ^ 4 * c + z) eg) (same h (31 ^ 4 * d + w) eh) in
-    let now = reduced ∙ sym (ap (λ (v : ℕ). v % 2 ^ 64) shared) in
-    record { check = record { room = four.room; rest = ap (λ (v : ℕ). check_from v (words_of m (drop (p + 32) s))) now ∙ four.rest } }
+    let now = reduced ∙ sym (ap (λ (t : ℕ). t % 2 ^ 64) shared) in
+    record { check = record { room = four.room; rest = ap (λ (t : ℕ). check_from t (words_of v (drop q s))) now ∙ four.rest } }
 
 -- the chains joined, where no word is left
 pub chains_end : (s : List ℕ) (R p n a b c d x y r : ℕ) → Chains s R p n a b c d → n ≤ 0

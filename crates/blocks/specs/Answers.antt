@@ -4,8 +4,8 @@ use Rattle.std.proofs.Math.Option.{Option, none, some}
 use Rattle.definitions.specs.Bounded.{◌upto◌}
 use Rattle.definitions.specs.Words.{block_of, number_of, kind_of_block, box_of, count_of, spare_of}
 use Rattle.blocks.specs.declared.inside.Heading.{Heading}
-use Rattle.blocks.specs.declared.Number.{Number}
-use Rattle.blocks.specs.declared.Number.TheVariants.{NoBlock, Is}
+use Rattle.std.specs.Prelude as code
+use Rattle.std.specs.Prelude.{Some, None}
 
 -- a block's heading; its box is the struct's place
 abbrev pub heading_of : List ℕ → Heading
@@ -16,6 +16,7 @@ heading_of block =
 unfoldable pub of_block {ℓ} : {A : Type ℓ} → List ℕ → ℕ → (List ℕ → A) → Option A
 of_block image k f = elim (512 * (k + 1) upto length image) [ true ↦ some (f (block_of image k)) | false ↦ none ]
 
-abbrev pub number_in : Number → Option ℕ
-number_in NoBlock = none
-number_in (Is n) = some n
+-- the code's number, where there is one
+abbrev pub number_in : code.Option ℕ → Option ℕ
+number_in None = none
+number_in (Some n) = some n

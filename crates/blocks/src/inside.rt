@@ -7,8 +7,19 @@ ghost use Rattle.definitions.specs.Check.{check_of, stored_check};
 ghost use Rattle.definitions.specs.ReadModel.{clear_from};
 ghost use Rattle.blocks.specs.Answers.{heading_of};
 
+// The kinds of blocks: a model's head, its sites and its lines; an estimate's tables rho, eps and kap.
+#[derive(Clone, Copy, PartialEq, Eq)]
+pub enum BlockKind {
+    Head = 1,
+    Sites = 2,
+    Lines = 3,
+    Rho = 4,
+    Eps = 5,
+    Kap = 6,
+}
+
 // Bytes 0 to 7 of a block; spare is bytes 6 and 7.
-#[derive(Clone, Copy)]
+#[derive(Clone, Copy, Debug, PartialEq, Eq)]
 pub struct Heading {
     pub number: usize,
     pub kind: usize,
@@ -35,40 +46,33 @@ pub fn heading_of(image: &[u8], k: usize) -> Heading
 pub fn heading_matches(h: Heading, k: usize, kind: usize, place: usize) -> bool
     ensures { result ≡ (h.number is k and h.kind is kind and h.place is place and h.spare is 0) }
 {
-    if h.number != k {
-        return false;
-    }
-    if h.kind != kind {
-        return false;
-    }
-    if h.place != place {
-        return false;
-    }
-    h.spare == 0
+    (h.number == k) & (h.kind == kind) & (h.place == place) & (h.spare == 0)
 }
 
+#[tactic(auto, using(crate::proofs::Blocks::blocks))]
 pub fn data_word(image: &[u8], k: usize, i: usize) -> u64
-    requires { (512 * (k + 1) ≤ length image.now) × (i < 62) }
+    requires there { 512 * (k + 1) ≤ length image.now }
+    requires inside { i < 62 }
     ensures { result ≡ data_word (block_of image.now k) i }
 {
     words::word(image, 512 * k + (8 + 8 * i))
 }
 
 // Data words from a number on are zero: joined, and tested once.
+#[tactic(auto, using(crate::proofs::Blocks::blocks))]
 pub fn clear_from(image: &[u8], k: usize, from: usize) -> bool
     requires { 512 * (k + 1) ≤ length image.now }
     ensures { result ≡ clear_from from (block_of image.now k) }
 {
     let mut w: u64 = 0;
-    let mut i = from;
-    while i < 62 {
-        w = w | data_word(image, k, i);
-        i += 1;
+    for i in from..62 {
+        w |= data_word(image, k, i);
     }
     w == 0
 }
 
 // The check that a block ought to have.
+#[tactic(auto, using(crate::proofs::Blocks::blocks))]
 pub fn check(image: &[u8], k: usize) -> u64
     requires { 512 * (k + 1) ≤ length image.now }
     ensures { result ≡ check_of (block_of image.now k) }
@@ -77,6 +81,7 @@ pub fn check(image: &[u8], k: usize) -> u64
 }
 
 // The check that a block stores is the one that it ought to have.
+#[tactic(auto, using(crate::proofs::Blocks::blocks))]
 pub fn check_matches(image: &[u8], k: usize) -> bool
     requires { 512 * (k + 1) ≤ length image.now }
     ensures { result ≡ (check_of (block_of image.now k) is stored_check (block_of image.now k)) }

@@ -9,27 +9,22 @@ ghost use Rattle.blocks.specs.Answers.{of_block, number_in};
 pub mod inside;
 mod sums;
 
-// A number of a block, where the image has the block whole.
-#[derive(Clone, Copy)]
-pub enum Number {
-    NoBlock,
-    Is(u64),
-}
-
 // The image has block k whole.
+#[tactic(auto, using(crate::proofs::Blocks::has_block_is))]
 pub fn has_block(image: &[u8], k: usize) -> bool
     ensures { result ≡ (512 * (k + 1) upto length image.now) }
 {
     k < image.len() / 512
 }
 
-// The check that block k ought to have.
-pub fn block_check(image: &[u8], k: usize) -> Number
+// The check that block k ought to have, where the image has the block whole.
+#[tactic(auto, using(crate::proofs::Blocks::blocks))]
+pub fn block_check(image: &[u8], k: usize) -> Option<u64>
     ensures { number_in result ≡ of_block image.now k check_of }
 {
     if has_block(image, k) {
-        Number::Is(inside::check(image, k))
+        Some(inside::check(image, k))
     } else {
-        Number::NoBlock
+        None
     }
 }

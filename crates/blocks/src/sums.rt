@@ -4,25 +4,27 @@ ghost use Rattle.definitions.specs.Words.{word_at, words_of};
 ghost use Rattle.definitions.specs.Check.{check_from};
 
 // 31 x: five doublings, and x off.
+#[tactic(auto, using(crate::proofs::Modulo::thirty_one))]
 fn times31(x: u64) -> u64
     ensures { result ≡ (31 * x) % 2 ^ 64 }
 {
-    let two = std::num::wrapping_add_u64(x, x);
-    let four = std::num::wrapping_add_u64(two, two);
-    let eight = std::num::wrapping_add_u64(four, four);
-    let sixteen = std::num::wrapping_add_u64(eight, eight);
-    let all = std::num::wrapping_add_u64(sixteen, sixteen);
-    std::num::wrapping_sub_u64(all, x)
+    let two = x.wrapping_add(x);
+    let four = two.wrapping_add(two);
+    let eight = four.wrapping_add(four);
+    let sixteen = eight.wrapping_add(eight);
+    let all = sixteen.wrapping_add(sixteen);
+    all.wrapping_sub(x)
 }
 
 // One word more: 31 c + w.
 fn step(c: u64, w: u64) -> u64
     ensures { result ≡ (31 * c + w) % 2 ^ 64 }
 {
-    std::num::wrapping_add_u64(times31(c), w)
+    times31(c).wrapping_add(w)
 }
 
 // The word at a place added to a chain: 31^4 c + w, since three words of the other chains stand between two of its own.
+#[tactic(auto, using(crate::proofs::Loops::sums))]
 fn chain_step(c: u64, s: &[u8], p: usize) -> u64
     requires { p + 8 ≤ length s.now }
     ensures { result ≡ (31 ^ 4 * c + word_at s.now p) % 2 ^ 64 }
@@ -32,6 +34,7 @@ fn chain_step(c: u64, s: &[u8], p: usize) -> u64
 
 // The check of the 63 words from a place on. The 1 of the start counts as a word before them; of these 64 each chain has every fourth, so that
 // no chain waits for another, and three steps join the chains: 31 (31 (31 a + b) + c) + d.
+#[tactic(auto, using(crate::proofs::Loops::sums))]
 pub fn by_chains(s: &[u8], at: usize) -> u64
     requires { at + 504 ≤ length s.now }
     ensures { result ≡ check_from 1 (words_of 63 (drop at s.now)) }
@@ -40,15 +43,12 @@ pub fn by_chains(s: &[u8], at: usize) -> u64
     let mut b = words::word(s, at);
     let mut c = words::word(s, at + 8);
     let mut d = words::word(s, at + 16);
-    let mut p = at + 24;
-    let mut left: usize = 15;
-    while 0 < left {
+    for i in 0..15 {
+        let p = at + 24 + 32 * i;
         a = chain_step(a, s, p);
         b = chain_step(b, s, p + 8);
         c = chain_step(c, s, p + 16);
         d = chain_step(d, s, p + 24);
-        p += 32;
-        left -= 1;
     }
     step(step(step(a, b), c), d)
 }

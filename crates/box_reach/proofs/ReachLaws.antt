@@ -3,9 +3,9 @@ use mathlib.Core.Path.{◌≡◌, refl, sym, ap, ap₂, ◌∙◌, subst}
 use mathlib.Core.Bool.{Bool, true, false, not}
 use mathlib.Core.List.{List}
 use mathlib.Core.Logic.{◌⊎◌, inl, inr, ◌≢◌, ⊎_elim}
-use mathlib.Core.Option.{Option, none}
-use Prim.Native.Nat.{ℕ, zero, suc, ◌+◌, ◌-◌, ◌≤◌, ◌<◌, zero-le}
-use native.Mathlib.Nat.{le_refl, le_antisymm}
+use mathlib.Core.Option.{none, some}
+use Prim.Native.Nat.{ℕ, zero, suc, ◌+◌, ◌≤◌, ◌<◌}
+use native.Mathlib.Nat.{le_refl}
 use native.Mathlib.Numerals.{add-one}
 use native.Mathlib.Omega.{arith}
 use native.Mathlib.Decide.{ℕ_discrete}
@@ -44,9 +44,6 @@ set_past old c v t l = record { long = refl; stored = λ u h. absurd (omega arit
 
 pub set_no : (old : List ℕ) (c v : ℕ) (t : Bool) → t ≡ false → SetAt old c v t old
 set_no old c v t e = record { long = refl; stored = λ u h. absurd (not-false e u); kept = λ d f. refl }
-
-pub set_long : (old new : List ℕ) (c v : ℕ) (t : Bool) → SetAt old c v t new → length old ≡ 124 → length new ≡ 124
-set_long old new c v t p e = p.long ∙ e
 
 pub set_children : (old mid new : List ℕ) (l : Line) (v : ℕ) → SetAt old l.child1 v (not (eqb l.op 0)) mid → SetAt mid l.child2 v (eqb l.op 1) new
     → SetAtChildren old l v new
@@ -114,35 +111,25 @@ children_given up new l v c s small t =
     first u z (yes o) (no w) = stays (λ _ q. w q) u z
     first u z (no o) d = stays (λ t q. o ((is_iff l.op 1).0 t)) u z
 
-pub record AboveRun (image : List ℕ) (k n i : ℕ) (up : List ℕ) : Type 0 where
-  pub upto : i ≤ n
-  pub handed : HandedDownEach image k i up
-
 module _ (image : List ℕ) (k n : ℕ) where
-  pub above_start : AboveRun image k n 0 (replicate 124 0)
+  pub above_start : HandedDownEach image k 0 (replicate 124 0)
   unfolding handed_down
   above_start = record {
-    upto = zero-le;
-    handed = record {
-      long = length-replicate {A = ℕ} 124 0;
-      at = λ c l. record { at = λ m _. ap (λ (s : ℕ). has s m) (get_or-replicate 124 c 0 0 l) ∙ has-none m };
-    };
+    long = length-replicate {A = ℕ} 124 0;
+    at = λ c l. record { at = λ m _. ap (λ (s : ℕ). has s m) (get_or-replicate 124 c 0 0 l) ∙ has-none m };
   }
 
-  pub above_turn : (i here bs : ℕ) (up new : List ℕ) (l : Line) → AboveRun image k n i up → i < n → LinesThere image k n → l ≡ line_record_at image k i → SetOf bs (binds l)
+  pub above_turn : (i here bs : ℕ) (up new : List ℕ) (l : Line) → HandedDownEach image k i up → i < n → LinesThere image k n → l ≡ line_record_at image k i → SetOf bs (binds l)
       → ((m : ℕ) → has here m ≡ (has bs m or has (get_or up i 0) m)) → SetAtChildren up l here new
-      → AboveRun image k n (i + 1) new
-  above_turn i here bs up new l p h t e b f down = record {
-    upto = omega arith;
-    handed = subst (λ (j : ℕ). HandedDownEach image k j new) (sym (add-one i)) (record {
-      long = down.second.long ∙ down.first.long ∙ p.handed.long;
-      at = λ c s. pick c s (decide (has_child l c));
-    });
-  }
+      → HandedDownEach image k (i + 1) new
+  above_turn i here bs up new l p h t e b f down = subst (λ (j : ℕ). HandedDownEach image k j new) (sym (add-one i)) (record {
+    long = down.second.long ∙ down.first.long ∙ p.long;
+    at = λ c s. pick c s (decide (has_child l c));
+  })
     where
       -- what a child is given
       given : SetOf here (λ m. binds (line_record_at image k i) m or handed_down image k i i m)
-      given = record { at = λ m q. f m ∙ ap₂ ◌or◌ (b.at m q ∙ ap (λ (y : Line). binds y m) e) ((p.handed.at i (omega (arith, t.few))).at m q) }
+      given = record { at = λ m q. f m ∙ ap₂ ◌or◌ (b.at m q ∙ ap (λ (y : Line). binds y m) e) ((p.at i (omega (arith, t.few))).at m q) }
 
       pick : (c : ℕ) → c < 124 → T (has_child l c) ⊎ (T (has_child l c) → ⊥) → SetOf (get_or new c 0) (handed_down image k (suc i) c)
       pick c s (inl u) = record {
@@ -150,15 +137,9 @@ module _ (image : List ℕ) (k n : ℕ) where
             ∙ sym (handed_child image k i c m (subst (λ (y : Line). T (has_child y c)) e u));
       }
       pick c s (inr u) = record {
-        at = λ m q. ap (λ (w : ℕ). has w m) (children_kept up new l here c down u) ∙ (p.handed.at c s).at m q
+        at = λ m q. ap (λ (w : ℕ). has w m) (children_kept up new l here c down u) ∙ (p.at c s).at m q
             ∙ sym (handed_other image k i c m (λ v. u (subst (λ (y : Line). T (has_child y c)) (sym e) v)));
       }
-
-  pub above_end : (i : ℕ) (up : List ℕ) → AboveRun image k n i up → n ≤ i → HandedDownEach image k n up
-  above_end i up p l = subst (λ (j : ℕ). HandedDownEach image k j up) (le_antisymm p.upto l) p.handed
-
-pub above_long : (image : List ℕ) (k n i : ℕ) (up : List ℕ) → AboveRun image k n i up → length up ≡ 124
-above_long image k n i up p = p.handed.long
 
 -- ---- in a box whose tree fits, that is what is bound strictly above
 
@@ -226,22 +207,19 @@ module _ (image : List ℕ) (b k n : ℕ) (h : LinesAt image b k n) (f : TreesFi
 pub record ReachRun (image : List ℕ) (b k n i bound : ℕ) (up : List ℕ) : Type 0 where
   pub records_fit : RecordsFit 9 n (reach_fits (model_of image)) b i
   pub bound_up : SetOf bound (bound_before (model_of image) b i)
-  pub above : AboveRun image k n i up
+  pub above : HandedDownEach image k i up
 
 pub reach-start : (image : List ℕ) (b k n bound : ℕ) → SetOf bound (bound_before (model_of image) b 0) → ReachRun image b k n 0 bound (replicate 124 0)
 reach-start image b k n bound s = record { records_fit = records_start 9 n (reach_fits (model_of image)) b; bound_up = s; above = above_start image k n }
-
-pub reach_long : (image : List ℕ) (b k n i bound : ℕ) (up : List ℕ) → ReachRun image b k n i bound up → length up ≡ 124
-reach_long image b k n i bound up p = p.above.handed.long
 
 module _ (image : List ℕ) (b k n i : ℕ) (x : Line) (up : List ℕ) (free-or-unlisted bound : ℕ) (t : Bool) (p : ReachRun image b k n i bound up) (h : LinesAt image b k n) (l : i < n)
     (q : x ≡ line_record_at image k i) (trees : TreesFit image b n) (free : SetOf free-or-unlisted (is_free_or_unlisted (model_of image).kinds))
     (decided : DecidesReach x free-or-unlisted (get_or up i 0) bound t) where
   reach_judged : t ≡ reach_fits (model_of image) b i
   reach_judged =
-      decided.decides (model_of image) b i free (bound_above_lem image b k n h trees i p.above.upto up p.above.handed i (le_refl i) l) p.bound_up (q ∙ line-at image b k n h i l)
+      decided.decides (model_of image) b i free (bound_above_lem image b k n h trees i (omega arith) up p.above i (le_refl i) l) p.bound_up (q ∙ line-at image b k n h i l)
 
-  pub reach-turn : (bs here r : ℕ) (new : List ℕ) → not t ≡ false → SetOf bs (binds x) → ((m : ℕ) → has here m ≡ (has bs m or has (get_or up i 0) m))
+  pub reach-turn : (bs here r : ℕ) (new : List ℕ) → none ≡ some_if (not t) (refusal 9 b i) → SetOf bs (binds x) → ((m : ℕ) → has here m ≡ (has bs m or has (get_or up i 0) m))
       → SetAtChildren up x here new → ((m : ℕ) → has r m ≡ (has bound m or has bs m)) → ReachRun image b k n (i + 1) r new
   unfolding bound_before
   reach-turn bs here r new z s g down f = record {
@@ -256,10 +234,10 @@ module _ (image : List ℕ) (b k n i : ℕ) (x : Line) (up : List ℕ) (free-or-
     above = above_turn image k n i here bs up new x p.above l h.there q s g down;
   }
 
-  pub reach_stop : (o : Option Refusal) → not t ≡ true → o ≡ some_if true (refusal 9 b i) → o ≡ box_misfit 9 n (reach_fits (model_of image)) b
-  reach_stop o z s = records_stop 9 n (reach_fits (model_of image)) b i t p.records_fit l reach_judged o z s
+  pub reach_stop : (r : Refusal) → some r ≡ some_if (not t) (refusal 9 b i) → some r ≡ box_misfit 9 n (reach_fits (model_of image)) b
+  reach_stop r z = records_stop 9 n (reach_fits (model_of image)) b i t p.records_fit l reach_judged r z
 
 pub reach_end : (image : List ℕ) (b k n i bound : ℕ) (up : List ℕ) → ReachRun image b k n i bound up → n ≤ i → none ≡ box_misfit 9 n (reach_fits (model_of image)) b
 reach_end image b k n i bound up p l = records_end 9 n (reach_fits (model_of image)) b i p.records_fit l
 
-pub ruleset reach = (rules, line-there, lines_of_box, set_yes, set_past, set_no, set_long, above_long, set_children, above_start, above_turn, above_end, reach-start, reach_long, reach-turn, reach_stop, reach_end)
+pub ruleset reach = (rules, line-there, lines_of_box, set_yes, set_past, set_no, set_children, above_start, above_turn, reach-start, reach-turn, reach_stop, reach_end)

@@ -1,4 +1,4 @@
-#![tactic(auto)]
+#![tactic(auto, using(crate::proofs::ReachLaws::reach))]
 // Rule 9 in one box: the names bound strictly above each line, and the first line whose names do not reach it.
 ghost use Rattle.std.specs.Prelude.{◌≡◌, length};
 ghost use Rattle.definitions.specs.Image.{model_of};
@@ -11,30 +11,26 @@ ghost use Rattle.record_rules.specs.Rules.{is_free_or_unlisted};
 ghost use Rattle.box_runs.specs.Runs.{TreesFit, box_misfit};
 ghost use Rattle.box_reach.specs.Reach.{SetAt, SetAtChildren, HandedDownEach};
 
-use records::Line;
 use records::inside::line;
 use records::names::binder;
-use refusals::{Answer, fault_if};
+use records::{Line, Op};
+use refusals::{Refusal, Rule, fault_if};
 
 // The entry c set to v where a test is met and c is in range.
 fn set_at(up: &mut [u64; 124], c: usize, v: u64, yes: bool)
-    requires { length up.old ≡ 124 }
     ensures { SetAt up.old c v yes up.new }
 {
-    if yes {
-        if c < 124 {
-            up[c] = v;
-        }
+    if yes && c < 124 {
+        up[c] = v;
     }
 }
 
 // The entries of a line's children, set to the names bound above them.
 fn set_at_children(up: &mut [u64; 124], l: Line, here: u64)
-    requires { length up.old ≡ 124 }
     ensures { SetAtChildren up.old (line_in l) here up.new }
 {
-    set_at(up, l.child1, here, l.op != 0);
-    set_at(up, l.child2, here, l.op == 1);
+    set_at(up, l.child1, here, l.op != Op::Nil as u8);
+    set_at(up, l.child2, here, l.op == Op::Parallel as u8);
 }
 
 // The names that the n lines after block k hand down to each line: in a box whose tree fits, the names bound strictly above it.
@@ -43,12 +39,10 @@ pub fn above(image: &[u8], k: usize, n: usize, up: &mut [u64; 124])
     ensures { HandedDownEach image.now k n up.new }
 {
     *up = [0u64; 124];
-    let mut i = 0;
-    while i < n {
+    for i in 0..n {
         let l = line(image, k, i);
         let here = sets::union(binder(l), up[i]);
         set_at_children(up, l, here);
-        i += 1;
     }
 }
 
@@ -60,7 +54,7 @@ pub fn box_reach(
     n: usize,
     free_or_unlisted: u64,
     bound: u64,
-) -> Answer
+) -> Result<(), Refusal>
     requires lines { LinesAt image.now b k n }
     requires trees { TreesFit image.now b n }
     requires unbound { SetOf free_or_unlisted (is_free_or_unlisted (model_of image.now).kinds) }
@@ -69,18 +63,14 @@ pub fn box_reach(
 {
     let mut up = [0u64; 124];
     let mut seen = bound;
-    let mut i = 0;
-    while i < n {
+    for i in 0..n {
         let l = line(image, k, i);
-        let over = up[i];
-        if !record_rules::reach_fits(l, free_or_unlisted, over, seen) {
-            return fault_if(true, 9, b, i);
-        }
+        let fits = record_rules::reach_fits(l, free_or_unlisted, up[i], seen);
+        fault_if(!fits, Rule::Reach, b, i)?;
         let bs = binder(l);
-        let here = sets::union(bs, over);
+        let here = sets::union(bs, up[i]);
         set_at_children(&mut up, l, here);
         seen = sets::union(seen, bs);
-        i += 1;
     }
-    Answer::NoRefusal
+    Ok(())
 }

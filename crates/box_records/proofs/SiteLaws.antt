@@ -7,7 +7,6 @@ use Prim.Native.Nat.{ℕ, zero, suc, ◌+◌, ◌*◌, ◌≤◌, ◌<◌}
 use native.Mathlib.Numerals.{add-one}
 use native.Mathlib.Omega.{arith}
 use native.Mathlib.Decide.{ℕ_discrete}
-use borrow.Author.Rules.{rules}
 use lib.Dec.{T, eqb, leb, ltb}
 use lib.ListN.{length}
 use Rattle.definitions.specs.Bounded.{◌and◌, ◌or◌, ◌is◌, ◌isnt◌, ◌below◌, ◌upto◌, all_below}
@@ -19,16 +18,17 @@ use Rattle.definitions.proofs.Bounded.{tests, and_is, or_is, and_iff, or_iff, is
 use Rattle.definitions.proofs.Loops.{fails, holds, Joining, joining_start, joining_turn, joining_end}
 use Rattle.definitions.proofs.Slots.{slot_length}
 use Rattle.definitions.proofs.StateRules.{number_low, held_iff}
+use Rattle.held_limits.specs.declared.Limits.{Limits}
 use Rattle.held_limits.specs.Limits.{in_limits, LimitsOf}
 use Rattle.box_records.specs.Rules.{clear_between, follows, DecidesFollows, DecidesType, SubjectsOf, DecidesSite, subjects_differ, new_subject, site_fits_at, DecidesSites, site_slots_fit, DecidesSiteSlots}
 use Rattle.box_records.proofs.WordLaws.{slots_fit_lem}
 
 -- ---- types
 
-pub follows_decided : (low high : List ℕ) (before v : ℕ) (a : Bool) → a ≡ in_limits low high v
-    → DecidesFollows low high before v (eqb v 0 || ((a && not (eqb before 0)) && ltb before v))
+pub follows_decided : (limits : Limits) (before v : ℕ) (a : Bool) → a ≡ in_limits limits v
+    → DecidesFollows limits before v (eqb v 0 || ((a && not (eqb before 0)) && ltb before v))
 unfolding follows ◌is◌ ◌isnt◌ ◌below◌
-follows_decided low high before v a e = record {
+follows_decided limits before v a e = record {
   decides = λ m last k.
       or_is (eqb v 0) ((a && not (eqb before 0)) && ltb before v)
       ∙ ap (λ (b : Bool). eqb v 0 or b) (and_is (a && not (eqb before 0)) (ltb before v)
@@ -72,16 +72,16 @@ module _ (m : Model) (last : ℕ → ℕ) (x : List ℕ) where
           subst (λ (v : ℕ). T (held_fits m last v)) e (g i (omega arith) (λ z. f (sym e ∙ z))).0
 
 -- the words before word j follow one another
-pub record TypeRun (low high x : List ℕ) (j before : ℕ) (ok : Bool) : Type 0 where
+pub record TypeRun (limits : Limits) (x : List ℕ) (j before : ℕ) (ok : Bool) : Type 0 where
   pub at : before ≡ type_word x j
-  pub known : (m : Model) (last : ℕ → ℕ) → LimitsOf m last low high → Joining 7 (type_step m last x) j ok
+  pub known : (m : Model) (last : ℕ → ℕ) → LimitsOf m last limits → Joining 7 (type_step m last x) j ok
 
-module _ (low high x : List ℕ) where
-  pub type_start : (before : ℕ) → before ≡ type_word x 0 → TypeRun low high x 0 before true
+module _ (limits : Limits) (x : List ℕ) where
+  pub type_start : (before : ℕ) → before ≡ type_word x 0 → TypeRun limits x 0 before true
   type_start before e = record { at = e; known = λ m last k. joining_start 7 (type_step m last x) }
 
-  module _ (j before : ℕ) (ok : Bool) (p : TypeRun low high x j before ok) where
-    pub type_turn : (v : ℕ) (b : Bool) → j < 7 → v ≡ type_word x (j + 1) → DecidesFollows low high before v b → TypeRun low high x (j + 1) v (ok && b)
+  module _ (j before : ℕ) (ok : Bool) (p : TypeRun limits x j before ok) where
+    pub type_turn : (v : ℕ) (b : Bool) → j < 7 → v ≡ type_word x (j + 1) → DecidesFollows limits before v b → TypeRun limits x (j + 1) v (ok && b)
     unfolding type_step
     type_turn v b h e d = record {
       at = e;
@@ -89,7 +89,7 @@ module _ (low high x : List ℕ) where
           joining_turn 7 (type_step m last x) j ok b (p.known m last k) h (d.decides m last k ∙ ap₂ (follows m last) p.at e);
     }
 
-    pub type_end : (w : ℕ) (a : Bool) → 7 ≤ j → w ≡ type_word x 0 → a ≡ in_limits low high w → DecidesType low high x (a && ok)
+    pub type_end : (w : ℕ) (a : Bool) → 7 ≤ j → w ≡ type_word x 0 → a ≡ in_limits limits w → DecidesType limits x (a && ok)
     type_end w a h e q = record {
       decides = λ m last k.
           and_is a ok ∙ ap₂ ◌and◌ (q ∙ k.same w ∙ ap (held_fits m last) e) (joining_end 7 (type_step m last x) j ok (p.known m last k) h) ∙ type_words_lem m last x;
@@ -118,10 +118,10 @@ offered-is m last s v n o e =
     at : has s n ≡ (listed m.kinds (held_number v) and offered m v)
     at = ap (has s) e ∙ o.at (held_number v) (number_low v)
 
-pub site_decided : (low high : List ℕ) (s : ℕ) (r : List ℕ) (i w n f : ℕ) (a b d : Bool) → length r ≡ 1139 → i < 16 → w ≡ subject (site r i) → a ≡ in_limits low high w
-    → n ≡ held_number w → b ≡ has s n → f ≡ flag (site r i) → DecidesType low high (site r i) d → DecidesSite low high s (site r i) (((a && b) && leb f 1) && d)
+pub site_decided : (limits : Limits) (s : ℕ) (r : List ℕ) (i w n f : ℕ) (a b d : Bool) → length r ≡ 1139 → i < 16 → w ≡ subject (site r i) → a ≡ in_limits limits w
+    → n ≡ held_number w → b ≡ has s n → f ≡ flag (site r i) → DecidesType limits (site r i) d → DecidesSite limits s (site r i) (((a && b) && leb f 1) && d)
 unfolding site_words_fit ◌upto◌ ◌and◌ offered
-site_decided low high s r i w n f a b d long h e q z c g k = record {
+site_decided limits s r i w n f a b d long h e q z c g k = record {
   decides = λ m last l o.
       and_is ((a && b) && leb f 1) d
       ∙ ap₂ ◌and◌ (and_is (a && b) (leb f 1) ∙ ap₂ ◌and◌ (and_is a b ∙ ap₂ ◌and◌ (q ∙ l.same w) c ∙ offered-is m last s w n o z ∙ ap (λ (v : ℕ). held_fits m last v and offered m v) e) (ap (λ (v : ℕ). leb v 1) g)) (k.decides m last l)
@@ -131,9 +131,9 @@ site_decided low high s r i w n f a b d long h e q z c g k = record {
 
 -- ---- subjects that differ
 
-pub differ_test : (r : List ℕ) (i j u v : ℕ) → u ≡ subject (site r j) → v ≡ subject (site r i) → not (eqb u v) ≡ subjects_differ r i j
+pub differ_test : (r : List ℕ) (i j u v : ℕ) (t : Bool) → t ≡ not (eqb u v) → u ≡ subject (site r j) → v ≡ subject (site r i) → t ≡ subjects_differ r i j
 unfolding subjects_differ ◌isnt◌
-differ_test r i j u v e q = ap₂ (λ (a b : ℕ). not (eqb a b)) e q
+differ_test r i j u v t d e q = d ∙ ap₂ (λ (a b : ℕ). not (eqb a b)) e q
 
 pub new_end : (r : List ℕ) (i j : ℕ) (ok : Bool) → Joining i (subjects_differ r i) j ok → i ≤ j → ok ≡ new_subject r i
 unfolding new_subject
@@ -141,21 +141,21 @@ new_end r i j ok p h = joining_end i (subjects_differ r i) j ok p h
 
 -- ---- the sites of a record
 
-pub record SitesRun (low high : List ℕ) (s : ℕ) (r : List ℕ) (n i : ℕ) (ok : Bool) : Type 0 where
-  pub known : (m : Model) (last : ℕ → ℕ) → LimitsOf m last low high → SubjectsOf m s → Joining n (site_fits_at m last r) i ok
+pub record SitesRun (limits : Limits) (s : ℕ) (r : List ℕ) (n i : ℕ) (ok : Bool) : Type 0 where
+  pub known : (m : Model) (last : ℕ → ℕ) → LimitsOf m last limits → SubjectsOf m s → Joining n (site_fits_at m last r) i ok
 
-module _ (low high : List ℕ) (s : ℕ) (r : List ℕ) (n : ℕ) where
-  pub sites-start : SitesRun low high s r n 0 true
+module _ (limits : Limits) (s : ℕ) (r : List ℕ) (n : ℕ) where
+  pub sites-start : SitesRun limits s r n 0 true
   sites-start = record { known = λ m last l o. joining_start n (site_fits_at m last r) }
 
-  module _ (i : ℕ) (ok : Bool) (p : SitesRun low high s r n i ok) where
-    pub sites-turn : (a b : Bool) → i < n → DecidesSite low high s (site r i) a → b ≡ new_subject r i → SitesRun low high s r n (i + 1) (ok && (a && b))
+  module _ (i : ℕ) (ok : Bool) (p : SitesRun limits s r n i ok) where
+    pub sites-turn : (a b : Bool) → i < n → DecidesSite limits s (site r i) a → b ≡ new_subject r i → SitesRun limits s r n (i + 1) (ok && (a && b))
     unfolding site_fits_at
     sites-turn a b h d e = record {
       known = λ m last l o. joining_turn n (site_fits_at m last r) i ok (a && b) (p.known m last l o) h (and_is a b ∙ ap₂ ◌and◌ (d.decides m last l o) e);
     }
 
-    pub sites_end : n ≤ i → DecidesSites low high s r n ok
+    pub sites_end : n ≤ i → DecidesSites limits s r n ok
     sites_end h = record { decides = λ m last l o. joining_end n (site_fits_at m last r) i ok (p.known m last l o) h }
 
 -- each of the first n sites fits, its subject is new, and the other words are zero
@@ -191,24 +191,24 @@ site_slots m last r n long e h =
     slots_are = ap (λ (k : ℕ). slots_fit 10 (site_words_fit m last) k (site r)) (sym e) ∙ slots_fit_lem 3 10 (omega arith) r (omega arith) (site_words_fit m last) n h
 
 -- more than 16 sites; a site that does not fit; and else the words past the sites
-module _ (low high : List ℕ) (s : ℕ) (r : List ℕ) (n : ℕ) (e : n ≡ sites r) where
-  pub sites_many : 16 < n → DecidesSiteSlots low high s r false
+module _ (limits : Limits) (s : ℕ) (r : List ℕ) (n : ℕ) (e : n ≡ sites r) where
+  pub sites_many : 16 < n → DecidesSiteSlots limits s r false
   unfolding site_slots_fit slots_fit
   sites_many h = record {
     decides = λ m last l o. sym (false_of (site_slots_fit m last r) (λ t. let u = simp tests at t in omega (arith, u.0.0)));
   }
 
-  module _ (long : length r ≡ 1139) (h : n ≤ 16) (t : Bool) (d : DecidesSites low high s r n t) where
-    pub sites-misfit : t ≡ false → DecidesSiteSlots low high s r false
+  module _ (long : length r ≡ 1139) (h : n ≤ 16) (t : Bool) (d : DecidesSites limits s r n t) where
+    pub sites-misfit : t ≡ false → DecidesSiteSlots limits s r false
     unfolding ◌and◌
     sites-misfit z = record {
       decides = λ m last l o. ap (λ (b : Bool). b and clear_between r (3 + 10 * n) 163) (sym z ∙ d.decides m last l o) ∙ site_slots m last r n long e h;
     }
 
-    pub sites-clear : (w : Bool) → t ≡ true → w ≡ clear_between r (3 + 10 * n) 163 → DecidesSiteSlots low high s r w
+    pub sites-clear : (w : Bool) → t ≡ true → w ≡ clear_between r (3 + 10 * n) 163 → DecidesSiteSlots limits s r w
     unfolding ◌and◌
     sites-clear w z q = record {
       decides = λ m last l o. ap₂ ◌and◌ (sym z ∙ d.decides m last l o) q ∙ site_slots m last r n long e h;
     }
 
-pub ruleset site-rules = (rules, fails, holds, follows_decided, type_start, type_turn, type_end, site_decided, joining_start, joining_turn, differ_test, new_end, sites-start, sites-turn, sites_end, sites_many, sites-misfit, sites-clear)
+pub ruleset site_rules = (follows_decided, type_start, type_turn, type_end, site_decided, joining_start, joining_turn, differ_test, new_end, sites-start, sites-turn, sites_end, sites_many, sites-misfit, sites-clear)

@@ -4,30 +4,30 @@ use mathlib.Core.Path.{◌≡◌, refl, sym, ap, ap₂, subst, ◌∙◌}
 use mathlib.Core.Bool.{Bool, true, false, not, ◌&&◌}
 use mathlib.Core.List.{List}
 use mathlib.Core.Logic.{◌↔◌, ◌⊎◌, inl, inr}
-use Prim.Native.Nat.{ℕ, zero, suc, ◌+◌, ◌*◌, ◌^◌, ◌≤◌, ◌<◌, zero-le}
-use native.Mathlib.Nat.{le_antisymm}
+use Prim.Native.Nat.{ℕ, zero, suc, ◌+◌, ◌*◌, ◌^◌, ◌≤◌, ◌<◌, max, zero-le}
+use native.Mathlib.Nat.{le_antisymm, le_refl}
 use native.Mathlib.Omega.{arith}
 use native.Mathlib.Decide.{ℕ_discrete}
-use borrow.Author.Rules.{rules}
 use lib.Dec.{T, eqb}
 use lib.ListN.{length, get_or}
 use mir.Syntax.{w32}
 use mir.Val.{Fits, bool_byte}
-use Rattle.definitions.specs.Bounded.{◌and◌, ◌isnt◌, all_below}
+use Rattle.definitions.specs.Bounded.{◌and◌, ◌is◌, ◌isnt◌, all_below}
 use Rattle.definitions.specs.Sets.{has, for_each, size_below, size}
 use Rattle.definitions.specs.Slots.{word}
 use Rattle.definitions.specs.Model.{Box, Model, line_count, bound_above}
 use Rattle.definitions.specs.Record.{threads, thread, line, binding}
 use Rattle.definitions.specs.StateRules.{slots_fit, held_fits, thread_words_fit}
-use Rattle.definitions.proofs.Bounded.{tests, and_is, isnt_iff, false_of, same_test, decide}
-use Rattle.definitions.proofs.Loops.{fails, holds, Passing, passing_start, passing_turn, passing_stop, passing_end}
+use Rattle.definitions.proofs.Bounded.{tests, and_is, is_iff, isnt_iff, false_of, not-false, same_test, decide}
+use Rattle.definitions.proofs.Loops.{Passing, passing_start, passing_turn, passing_stop, passing_end}
 use Rattle.definitions.proofs.Sets.{and-true, and_assoc, for_each_iff, size_out}
 use Rattle.definitions.proofs.Slots.{word_slot, slot_length}
 use Rattle.definitions.proofs.StateRules.{HeldFits, held_iff, ThreadFits, thread_iff}
-use Rattle.sets.specs.Lowest.{lowest_of, WithoutLowest}
+use Rattle.sets.specs.Ascending.{LowestOf}
 use Rattle.sets.specs.Names.{NamesOnly}
-use Rattle.sets.proofs.Walk.{Left, left_start, left_turn, left_name, walk_less, split_each, none_each}
+use Rattle.sets.proofs.Walk.{Left, left_start, left_turn, left_name, split_each, none_each}
 use Rattle.records.specs.NameSets.{SetOf}
+use Rattle.held_limits.specs.declared.Limits.{Limits}
 use Rattle.held_limits.specs.Limits.{in_limits, LimitsOf}
 use Rattle.box_records.specs.Rules.{clear_between, count_below, has_binding, binding_fits, DecidesBindings, AboveOf, AboveEach, Covering, StandBelow, NamesAbove, DecidesThread, thread_fits_at, DecidesThreads, thread_slots_fit, DecidesThreadSlots}
 use Rattle.box_records.proofs.WordLaws.{count_more, count_most, count_cong, count_same, slots_fit_lem}
@@ -67,28 +67,30 @@ count_end y i c p h = p.same ∙ ap (λ (n : ℕ). count_below n (has_binding y)
 
 -- ---- the bindings of a set of names
 
-pub record BindingsRun (low high y : List ℕ) (s left : ℕ) (ok : Bool) : Type 0 where
+pub record BindingsRun (limits : Limits) (y : List ℕ) (s left : ℕ) (ok : Bool) : Type 0 where
   pub there : Left s left
-  pub known : (m : Model) (last : ℕ → ℕ) → LimitsOf m last low high → (ok and for_each left (binding_fits m last y)) ≡ for_each s (binding_fits m last y)
+  pub known : (m : Model) (last : ℕ → ℕ) → LimitsOf m last limits → (ok and for_each left (binding_fits m last y)) ≡ for_each s (binding_fits m last y)
 
-module _ (low high y : List ℕ) (s : ℕ) where
-  pub bindings_start : s < 2 ^ 64 → BindingsRun low high y s s true
+module _ (limits : Limits) (y : List ℕ) (s : ℕ) where
+  pub bindings_start : s < 2 ^ 64 → BindingsRun limits y s s true
   unfolding ◌and◌
   bindings_start h = record { there = left_start s h; known = λ m last l. refl }
 
-  module _ (left : ℕ) (ok : Bool) (p : BindingsRun low high y s left ok) where
-    pub bindings_turn : (n v rest : ℕ) (a : Bool) → (left ≡ 0 → ⊥) → n ≡ lowest_of left → v ≡ binding y n → a ≡ in_limits low high v → WithoutLowest left rest
-        → BindingsRun low high y s rest (ok && a)
+  module _ (left : ℕ) (ok : Bool) (p : BindingsRun limits y s left ok) where
+    pub bindings_name : (n rest : ℕ) → NamesOnly s → LowestOf left n rest → n < 60
+    bindings_name n rest f w = left_name s left n f p.there (λ z. absurd (omega (arith, w.some_left))) w.lowest
+
+    pub bindings_turn : (n v rest : ℕ) (a : Bool) → LowestOf left n rest → v ≡ binding y n → a ≡ in_limits limits v → BindingsRun limits y s rest (ok && a)
     unfolding binding_fits
-    bindings_turn n v rest a z e q d r = record {
-      there = left_turn s left rest p.there z r;
+    bindings_turn n v rest a w q d = record {
+      there = left_turn s left rest p.there (λ z. absurd (omega (arith, w.some_left))) w.others;
       known = λ m last l.
           ap (λ (b : Bool). b and for_each rest (binding_fits m last y)) (and_is ok a ∙ ap (λ (b : Bool). ok and b) (d ∙ l.same v ∙ ap (held_fits m last) q))
           ∙ and_assoc ok (binding_fits m last y n) (for_each rest (binding_fits m last y))
-          ∙ ap (λ (b : Bool). ok and b) (sym (split_each (binding_fits m last y) left rest n p.there.fit z e r)) ∙ p.known m last l;
+          ∙ ap (λ (b : Bool). ok and b) (sym (split_each (binding_fits m last y) left rest n p.there.fit (λ z. absurd (omega (arith, w.some_left))) w.lowest w.others)) ∙ p.known m last l;
     }
 
-    pub bindings_end : left ≡ 0 → DecidesBindings low high y s ok
+    pub bindings_end : left ≡ 0 → DecidesBindings limits y s ok
     bindings_end z = record {
       decides = λ m last l.
           sym (and-true ok) ∙ ap (λ (b : Bool). ok and b) (sym (none_each (binding_fits m last y) left z)) ∙ p.known m last l;
@@ -151,8 +153,8 @@ module _ (m : Model) (last : ℕ → ℕ) (x : Box) (y : List ℕ) (long : lengt
       unbound n h b f (no z) =
           absurd (b ((member n h).0 (count_same (has_binding y) (has s) 60 (λ i l u. (isnt_iff (binding y i) 0).1 (f i l u).given) (e ∙ size_names s only) n h ((isnt_iff (binding y n) 0).1 z))))
 
-module _ (low high up : List ℕ) (lines : ℕ) (r : List ℕ) (t l : ℕ) (at : l ≡ line (thread r t)) where
-  pub thread_past : lines ≤ l → DecidesThread low high up lines (thread r t) false
+module _ (limits : Limits) (up : List ℕ) (lines : ℕ) (r : List ℕ) (t l : ℕ) (at : l ≡ line (thread r t)) where
+  pub thread_past : lines ≤ l → DecidesThread limits up lines (thread r t) false
   thread_past h = record {
     decides = λ m last x k a.
         sym (false_of (thread_words_fit m last x (thread r t)) (λ u. let f = (thread_iff m last x (thread r t)).0 u in omega (arith, f.stands, a.count)));
@@ -173,15 +175,16 @@ module _ (low high up : List ℕ) (lines : ℕ) (r : List ℕ) (t l : ℕ) (at :
         on_line : line (thread r t) < line_count x
         on_line = omega (arith, a.count)
 
-      pub thread-count : (c ≡ k → ⊥) → DecidesThread low high up lines (thread r t) false
-      thread-count f = record {
+      pub thread_count : (eqb c k ≡ false) → DecidesThread limits up lines (thread r t) (eqb c k)
+      unfolding ◌is◌
+      thread_count z = record {
         decides = λ m last x _ a.
-            sym (false_of (thread_words_fit m last x (thread r t))
-            (λ u. f (counted ∙ thread_counts m last x (thread r t) (long_thread m last x a) (on_line m last x a) (get_or up l 0) above_names (here m last x a) u ∙ sym sized)));
+            z ∙ sym (false_of (thread_words_fit m last x (thread r t))
+            (λ u. not-false z ((is_iff c k).1 (counted ∙ thread_counts m last x (thread r t) (long_thread m last x a) (on_line m last x a) (get_or up l 0) above_names (here m last x a) u ∙ sym sized))));
       }
 
-      pub thread-bound : (w : Bool) → c ≡ k → DecidesBindings low high (thread r t) (get_or up l 0) w → DecidesThread low high up lines (thread r t) w
-      thread-bound w e d = record {
+      pub thread_bound : (w : Bool) → c ≡ k → DecidesBindings limits (thread r t) (get_or up l 0) w → DecidesThread limits up lines (thread r t) w
+      thread_bound w e d = record {
         decides = λ m last x b a.
             d.decides m last b
             ∙ thread_words m last x (thread r t) (long_thread m last x a) (on_line m last x a) (get_or up l 0) above_names (here m last x a) (sym counted ∙ e ∙ sized);
@@ -189,13 +192,16 @@ module _ (low high up : List ℕ) (lines : ℕ) (r : List ℕ) (t l : ℕ) (at :
 
 -- ---- the lines at which threads stand
 
+pub covering : (lines used l : ℕ) → used ≤ lines → l < lines → Covering lines used l (max used (l + 1))
+covering lines used l few h = record { few = omega arith; most = omega arith; here = λ _. omega arith }
+
+pub not_covering : (lines used l : ℕ) → used ≤ lines → lines ≤ l → Covering lines used l used
+not_covering lines used l few h = record { few = few; most = le_refl used; here = λ q. absurd (omega arith) }
+
 pub stand_start : (r : List ℕ) (lines : ℕ) → StandBelow r lines 0 0
 stand_start r lines = record { few = zero-le; each = λ i h. absurd (omega arith) }
 
 module _ (r : List ℕ) (lines t n : ℕ) (p : StandBelow r lines t n) where
-  pub stand_few : n ≤ lines
-  stand_few = p.few
-
   pub stand_turn : (l m : ℕ) → l ≡ line (thread r t) → Covering lines n l m → StandBelow r lines (t + 1) m
   stand_turn l m at c = record { few = c.few; each = λ i h k. pick i h k (ℕ_discrete t i) }
     where
@@ -210,27 +216,27 @@ module _ (r : List ℕ) (lines t n : ℕ) (p : StandBelow r lines t n) where
 
 -- ---- the threads of a record
 
-pub record ThreadsRun (low high up : List ℕ) (lines : ℕ) (r : List ℕ) (n t : ℕ) : Type 0 where
-  pub known : (m : Model) (last : ℕ → ℕ) (x : Box) → LimitsOf m last low high → AboveEach x lines up r n → Passing (thread_fits_at m last x r) t
+pub record ThreadsRun (limits : Limits) (up : List ℕ) (lines : ℕ) (r : List ℕ) (n t : ℕ) : Type 0 where
+  pub known : (m : Model) (last : ℕ → ℕ) (x : Box) → LimitsOf m last limits → AboveEach x lines up r n → Passing (thread_fits_at m last x r) t
 
-module _ (low high up : List ℕ) (lines : ℕ) (r : List ℕ) (n : ℕ) where
-  pub threads-start : ThreadsRun low high up lines r n 0
+module _ (limits : Limits) (up : List ℕ) (lines : ℕ) (r : List ℕ) (n : ℕ) where
+  pub threads-start : ThreadsRun limits up lines r n 0
   threads-start = record { known = λ m last x _ _. passing_start (thread_fits_at m last x r) }
 
-  module _ (t : ℕ) (b : Bool) (few : n ≤ 16) (h : t < n) (d : DecidesThread low high up lines (thread r t) b) where
-    pub threads-turn : ThreadsRun low high up lines r n t → b ≡ true → ThreadsRun low high up lines r n (t + 1)
+  module _ (t : ℕ) (b : Bool) (few : n ≤ 16) (h : t < n) (d : DecidesThread limits up lines (thread r t) b) where
+    pub threads-turn : ThreadsRun limits up lines r n t → b ≡ true → ThreadsRun limits up lines r n (t + 1)
     unfolding thread_fits_at
     threads-turn p z = record {
       known = λ m last x l a. passing_turn (thread_fits_at m last x r) t b (p.known m last x l a) (d.decides m last x l (a.each t h (omega arith))) z;
     }
 
-    pub threads_stop : b ≡ false → DecidesThreads low high up lines r n false
+    pub threads_stop : b ≡ false → DecidesThreads limits up lines r n false
     unfolding thread_fits_at
     threads_stop z = record {
       decides = λ m last x l a. passing_stop n (thread_fits_at m last x r) t b h (d.decides m last x l (a.each t h (omega arith))) z;
     }
 
-  pub threads_end : (t : ℕ) → ThreadsRun low high up lines r n t → n ≤ t → DecidesThreads low high up lines r n true
+  pub threads_end : (t : ℕ) → ThreadsRun limits up lines r n t → n ≤ t → DecidesThreads limits up lines r n true
   threads_end t p h = record { decides = λ m last x l a. passing_end n (thread_fits_at m last x r) t (p.known m last x l a) h }
 
 -- each of the first n threads fits, and the other words are zero
@@ -241,30 +247,30 @@ thread_slots m last x r n long e h =
     sym (ap (λ (k : ℕ). slots_fit 61 (thread_words_fit m last x) k (thread r)) (sym e) ∙ slots_fit_lem 163 61 (omega arith) r (omega arith) (thread_words_fit m last x) n h)
 
 -- more than 16 threads; a thread that does not fit; and else the words past the threads
-module _ (low high up : List ℕ) (lines : ℕ) (r : List ℕ) (n : ℕ) (e : n ≡ threads r) where
-  pub threads_many : 16 < n → DecidesThreadSlots low high up lines r false
+module _ (limits : Limits) (up : List ℕ) (lines : ℕ) (r : List ℕ) (n : ℕ) (e : n ≡ threads r) where
+  pub threads_many : 16 < n → DecidesThreadSlots limits up lines r false
   unfolding thread_slots_fit slots_fit
   threads_many h = record {
     decides = λ m last x l a. sym (false_of (thread_slots_fit m last x r) (λ t. let u = simp tests at t in omega (arith, u.0)));
   }
 
-  module _ (long : length r ≡ 1139) (h : n ≤ 16) (t : Bool) (d : DecidesThreads low high up lines r n t) where
+  module _ (long : length r ≡ 1139) (h : n ≤ 16) (t : Bool) (d : DecidesThreads limits up lines r n t) where
     first : (x : Box) → AboveEach x lines up r (threads r) → AboveEach x lines up r n
     first x a = subst (λ (k : ℕ). AboveEach x lines up r k) (sym e) a
 
-    pub threads-misfit : t ≡ false → DecidesThreadSlots low high up lines r false
+    pub threads-misfit : t ≡ false → DecidesThreadSlots limits up lines r false
     unfolding ◌and◌
     threads-misfit z = record {
       decides = λ m last x l a.
           ap (λ (b : Bool). b and clear_between r (163 + 61 * n) 1139) (sym z ∙ d.decides m last x l (first x a)) ∙ thread_slots m last x r n long e h;
     }
 
-    pub threads-clear : (w : Bool) → t ≡ true → w ≡ clear_between r (163 + 61 * n) 1139 → DecidesThreadSlots low high up lines r w
+    pub threads-clear : (w : Bool) → t ≡ true → w ≡ clear_between r (163 + 61 * n) 1139 → DecidesThreadSlots limits up lines r w
     unfolding ◌and◌
     threads-clear w z q = record {
       decides = λ m last x l a. ap₂ ◌and◌ (sym z ∙ d.decides m last x l (first x a)) q ∙ thread_slots m last x r n long e h;
     }
 
-pub ruleset stand-rules = (rules, stand_start, stand_few, stand_turn, stand_end)
+pub ruleset stand_rules = (covering, not_covering, stand_start, stand_turn, stand_end)
 
-pub ruleset thread-rules = (rules, fails, holds, count-start, count_turn, count_room, count_end, left_name, walk_less, bindings_start, bindings_turn, bindings_end, thread_past, above_names, thread-count, thread-bound, threads-start, threads-turn, threads_stop, threads_end, threads_many, threads-misfit, threads-clear)
+pub ruleset thread_rules = (count-start, count_turn, count_room, count_end, bindings_start, bindings_name, bindings_turn, bindings_end, thread_past, above_names, thread_count, thread_bound, threads-start, threads-turn, threads_stop, threads_end, threads_many, threads-misfit, threads-clear)

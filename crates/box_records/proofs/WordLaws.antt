@@ -8,7 +8,6 @@ use native.Mathlib.Nat.{le_refl, mul_comm, mul-le-mul_left, mod-lt, div-add-mod'
 use native.Mathlib.Numerals.{add-one}
 use native.Mathlib.Omega.{arith}
 use native.Mathlib.Decide.{ℕ_discrete}
-use borrow.Author.Rules.{rules}
 use lib.Dec.{T, eqb}
 use lib.ListN.{length}
 use Rattle.definitions.specs.Bounded.{◌and◌, ◌is◌, ◌below◌, ◌upto◌, all_below}
@@ -197,4 +196,4 @@ module _ (p q : ℕ → Bool) where
       pick (yes z) rest = subst (λ (j : ℕ). T (q j)) z (last.0 (subst (λ (j : ℕ). T (p j)) (sym z) t))
       pick (no z) rest = rest fewer last.1 (omega arith) t
 
-pub ruleset words = (rules, fails, holds, zeros-start, zeros-turn, clear_end, runs_start, runs_turn, runs_stop, runs_end)
+pub ruleset words = (zeros-start, zeros-turn, clear_end, runs_start, runs_turn, runs_stop, runs_end)

@@ -1,10 +1,10 @@
--- Laws of the runs over the records of one box: sets gathered, what is bound strictly above, and the first record that does not fit. Assumes nothing.
-use mathlib.Core.Path.{◌≡◌, refl, sym, ap, ap₂, ◌∙◌, subst}
+-- Laws of the runs over the records of one box: sets gathered, and the first record that does not fit. Assumes nothing.
+use mathlib.Core.Path.{◌≡◌, refl, sym, ap, ap₂, ◌∙◌}
 use mathlib.Core.Bool.{Bool, true, false, not}
 use mathlib.Core.List.{List}
-use mathlib.Core.Option.{Option, none}
+use mathlib.Core.Option.{Option, none, some}
 use Prim.Native.Nat.{ℕ, ◌+◌, ◌-◌, ◌*◌, ◌≤◌, ◌<◌}
-use native.Mathlib.Nat.{le_refl, le_antisymm}
+use native.Mathlib.Nat.{le_refl}
 use native.Mathlib.Numerals.{add-one}
 use native.Mathlib.Omega.{arith}
 use borrow.Author.Rules.{rules}
@@ -51,9 +51,6 @@ module _ (block : List ℕ) where
     at = λ m l. f m l ∙ ap₂ (λ (t : Bool) (y : Site). t or y.subject is m) (p.at m l) e ∙ sym (any_more i (λ j. (site_record block j).subject is m));
   }
 
-  pub subject_end : (n i s : ℕ) → i ≤ n → n ≤ i → SetOf s (subject_in block i) → SetOf s (subject_in block n)
-  subject_end n i s g l p = subst (λ (j : ℕ). SetOf s (subject_in block j)) (le_antisymm g l) p
-
 module _ (image : List ℕ) (k : ℕ) where
   pub bound-start : SetOf 0 (bound_in image k 0)
   unfolding bound_in
@@ -65,9 +62,6 @@ module _ (image : List ℕ) (k : ℕ) where
   bound-turn i s r bs x p e g f = record {
     at = λ m l. f m ∙ ap₂ ◌or◌ (p.at m l) (g.at m l ∙ ap (λ (y : Line). binds y m) e) ∙ sym (any_more i (λ i. binds (line_record_at image k i) m));
   }
-
-  pub bound_end : (n i s : ℕ) → i ≤ n → n ≤ i → SetOf s (bound_in image k i) → SetOf s (bound_in image k n)
-  bound_end n i s g l p = subst (λ (j : ℕ). SetOf s (bound_in image k j)) (le_antisymm g l) p
 
   pub child_start : LineSetOf (record { low = 0; high = 0 }) (child_in image k 0)
   unfolding child_in line_is
@@ -84,9 +78,6 @@ module _ (image : List ℕ) (k : ℕ) where
     at = λ c l. f.at c l ∙ ap₂ (λ (t : Bool) (y : Line). t or has_child y c) (p.at c l) e ∙ sym (any_more i (λ i. has_child (line_record_at image k i) c));
   }
 
-  pub child_end : (n i : ℕ) (s : LineSet) → i ≤ n → n ≤ i → LineSetOf s (child_in image k i) → LineSetOf s (child_in image k n)
-  child_end n i s g l p = subst (λ (j : ℕ). LineSetOf s (child_in image k j)) (le_antisymm g l) p
-
 -- ---- the first record that does not fit
 
 -- the fault of record i of box b, where it does not fit
@@ -101,15 +92,15 @@ module _ (number n : ℕ) (fits : ℕ → ℕ → Bool) (b : ℕ) where
   records_start = record { passed = passed_start n (misfit number fits b) }
 
   module _ (i : ℕ) (t : Bool) (p : RecordsFit number n fits b i) (l : i < n) (e : t ≡ fits b i) where
-    found : (u : Bool) → not t ≡ u → some_if u (refusal number b i) ≡ misfit number fits b i
-    found u q = ap (λ (x : Bool). some_if x (refusal number b i)) (sym q ∙ ap not e)
+    found : some_if (not t) (refusal number b i) ≡ misfit number fits b i
+    found = ap (λ (x : Bool). some_if (not x) (refusal number b i)) e
 
-    pub records_turn : not t ≡ false → RecordsFit number n fits b (i + 1)
-    records_turn q = record { passed = passed-turn n (misfit number fits b) i p.passed l (found false q) }
+    pub records_turn : none ≡ some_if (not t) (refusal number b i) → RecordsFit number n fits b (i + 1)
+    records_turn q = record { passed = passed-turn n (misfit number fits b) i p.passed l (q ∙ found) }
 
-    pub records_stop : (o : Option Refusal) → not t ≡ true → o ≡ some_if true (refusal number b i) → o ≡ box_misfit number n fits b
+    pub records_stop : (r : Refusal) → some r ≡ some_if (not t) (refusal number b i) → some r ≡ box_misfit number n fits b
     unfolding box_misfit
-    records_stop o q s = s ∙ passed_stop n (misfit number fits b) i (refusal number b i) p.passed l (found true q)
+    records_stop r q = passed_stop n (misfit number fits b) i r p.passed l (q ∙ found)
 
   pub records_end : (i : ℕ) → RecordsFit number n fits b i → n ≤ i → none ≡ box_misfit number n fits b
   unfolding box_misfit
@@ -129,7 +120,7 @@ module _ (image : List ℕ) (b k n i : ℕ) (s : Site) (free used : ℕ) (t : Bo
   judged : t ≡ site_fits (model_of image) b i
   judged = decided.decides (model_of image) b i few frees p.used_up (e ∙ site-at image b k n h i l)
 
-  pub site-turn : (r : ℕ) → not t ≡ false → ((m : ℕ) → m < 64 → has r m ≡ (has used m or s.subject is m)) → SiteRun image b n (i + 1) r
+  pub site-turn : (r : ℕ) → none ≡ some_if (not t) (refusal 6 b i) → ((m : ℕ) → m < 64 → has r m ≡ (has used m or s.subject is m)) → SiteRun image b n (i + 1) r
   unfolding used_before
   site-turn r q f = record {
     records_fit = records_turn 6 n (site_fits (model_of image)) b i t p.records_fit l judged q;
@@ -142,8 +133,8 @@ module _ (image : List ℕ) (b k n i : ℕ) (s : Site) (free used : ℕ) (t : Bo
     };
   }
 
-  pub site_stop : (o : Option Refusal) → not t ≡ true → o ≡ some_if true (refusal 6 b i) → o ≡ box_misfit 6 n (site_fits (model_of image)) b
-  site_stop o q z = records_stop 6 n (site_fits (model_of image)) b i t p.records_fit l judged o q z
+  pub site_stop : (r : Refusal) → some r ≡ some_if (not t) (refusal 6 b i) → some r ≡ box_misfit 6 n (site_fits (model_of image)) b
+  site_stop r q = records_stop 6 n (site_fits (model_of image)) b i t p.records_fit l judged r q
 
 pub site_end : (image : List ℕ) (b n i used : ℕ) → SiteRun image b n i used → n ≤ i → none ≡ box_misfit 6 n (site_fits (model_of image)) b
 site_end image b n i used p l = records_end 6 n (site_fits (model_of image)) b i p.records_fit l
@@ -155,11 +146,11 @@ module _ (image : List ℕ) (b k n i : ℕ) (x : Line) (a r c e : ℕ) (t : Bool
   line_judged : t ≡ line_fit (model_of image) b i
   line_judged = decided.decides (model_of image) kinds ∙ ap (line_fits (model_of image).kinds) (q ∙ line-at image b k n h i l)
 
-  pub line-turn : not t ≡ false → RecordsFit 7 n (line_fit (model_of image)) b (i + 1)
+  pub line-turn : none ≡ some_if (not t) (refusal 7 b i) → RecordsFit 7 n (line_fit (model_of image)) b (i + 1)
   line-turn z = records_turn 7 n (line_fit (model_of image)) b i t p l line_judged z
 
-  pub line_stop : (o : Option Refusal) → not t ≡ true → o ≡ some_if true (refusal 7 b i) → o ≡ box_misfit 7 n (line_fit (model_of image)) b
-  line_stop o z s = records_stop 7 n (line_fit (model_of image)) b i t p l line_judged o z s
+  pub line_stop : (r : Refusal) → some r ≡ some_if (not t) (refusal 7 b i) → some r ≡ box_misfit 7 n (line_fit (model_of image)) b
+  line_stop r z = records_stop 7 n (line_fit (model_of image)) b i t p l line_judged r z
 
 -- ---- 8: the tree of a box, and the children of the lines before
 
@@ -192,14 +183,14 @@ module _ (image : List ℕ) (b k n i : ℕ) (x : Line) (seen all : LineSet) (t :
       decided.decides _ _ h.there.few l (children_at image b k n i seen h (omega arith) p.children) (children_at image b k n n all h (le_refl n) children)
       ∙ tree_fits_lem (box_at (model_of image) b) x i n (line-count image b k n h) (q ∙ line-at image b k n h i l)
 
-  pub tree-turn : (r : LineSet) → not t ≡ false → LineSetOf r (insert_children seen.low seen.high x) → TreeRun image b k n (i + 1) r
+  pub tree-turn : (r : LineSet) → none ≡ some_if (not t) (refusal 8 b i) → LineSetOf r (insert_children seen.low seen.high x) → TreeRun image b k n (i + 1) r
   tree-turn r z f = record {
     records_fit = records_turn 8 n (tree_fit (model_of image)) b i t p.records_fit l tree_judged z;
     children = child_turn image k i seen r x p.children q f;
   }
 
-  pub tree_stop : (o : Option Refusal) → not t ≡ true → o ≡ some_if true (refusal 8 b i) → o ≡ box_misfit 8 n (tree_fit (model_of image)) b
-  tree_stop o z s = records_stop 8 n (tree_fit (model_of image)) b i t p.records_fit l tree_judged o z s
+  pub tree_stop : (r : Refusal) → some r ≡ some_if (not t) (refusal 8 b i) → some r ≡ box_misfit 8 n (tree_fit (model_of image)) b
+  tree_stop r z = records_stop 8 n (tree_fit (model_of image)) b i t p.records_fit l tree_judged r z
 
 pub tree_end : (image : List ℕ) (b k n i : ℕ) (s : LineSet) → TreeRun image b k n i s → n ≤ i → none ≡ box_misfit 8 n (tree_fit (model_of image)) b
 tree_end image b k n i s p l = records_end 8 n (tree_fit (model_of image)) b i p.records_fit l
@@ -207,4 +198,4 @@ tree_end image b k n i s p l = records_end 8 n (tree_fit (model_of image)) b i p
 pub sites-room : (image : List ℕ) (b k n : ℕ) → SitesAt image b k n → 512 * (k + 1) ≤ length image
 sites-room image b k n h = h.there
 
-pub ruleset runs = (rules, line-there, lines_of_box, sites-room, subject-start, subject-turn, subject_end, bound-start, bound-turn, bound_end, child_start, child_turn, child_end, records_start, records_end, site-start, site-turn, site_stop, site_end, line-turn, line_stop, tree-start, tree-turn, tree_stop, tree_end)
+pub ruleset runs = (rules, line-there, lines_of_box, sites-room, subject-start, subject-turn, bound-start, bound-turn, child_start, child_turn, records_start, records_end, site-start, site-turn, site_stop, site_end, line-turn, line_stop, tree-start, tree-turn, tree_stop, tree_end)

@@ -12,7 +12,6 @@ ghost use Rattle.runs.specs.Begins.{moves_in};
 ghost use Rattle.packing.specs.Packed.{pack_verdict, pack_reply, pack_call, pack_part};
 ghost use Rattle.capi.specs.Copied.{or_zero, copied, pack_copied};
 
-use blocks::Number;
 use runs::Move;
 
 // The check that block k ought to have: 0 where the image has no such block.
@@ -20,10 +19,7 @@ use runs::Move;
 pub extern "C" fn bm_block_check(image: &[u8], k: usize) -> u64
     ensures { result ≡ or_zero (of_block image.now k check_of) }
 {
-    match blocks::block_check(image, k) {
-        Number::Is(c) => c,
-        Number::NoBlock => 0,
-    }
+    blocks::block_check(image, k).unwrap_or(0)
 }
 
 // The model's refusal: 0 where there is none.
@@ -31,9 +27,7 @@ pub extern "C" fn bm_block_check(image: &[u8], k: usize) -> u64
 pub extern "C" fn bm_read_model(image: &[u8]) -> u64
     ensures { result ≡ pack_call (read_model image.now) }
 {
-    let read = model::read(image);
-    let answer = read.answer;
-    packing::of_call(answer)
+    packing::of_call(model::read(image).map(|_| ()))
 }
 
 // The refusal of the model, then of the estimate: 0 where there is none. No clause is tried.
@@ -89,12 +83,15 @@ pub extern "C" fn bm_step(
 // The moves of a list in turn, each with its answer.
 #[unsafe(no_mangle)]
 pub extern "C" fn bm_run(model: &[u8], state: &mut [u32], moves: &[Move], answers: &mut [u8]) -> u64
-    ensures { (result ≡ pack_call (calls.run model.now state.old (moves_in moves.now) answers.old).answer) × (state.new ≡ (calls.run model.now state.old (moves_in moves.now) answers.old).words) × (answers.new ≡ (calls.run model.now state.old (moves_in moves.now) answers.old).answers) }
+    ensures answer { result ≡ pack_call (calls.run model.now state.old (moves_in moves.now) answers.old).answer }
+    ensures words { state.new ≡ (calls.run model.now state.old (moves_in moves.now) answers.old).words }
+    ensures answers { answers.new ≡ (calls.run model.now state.old (moves_in moves.now) answers.old).answers }
 {
     packing::of_call(runs::run(model, state, moves, answers))
 }
 
 // Where the refused block stands: in which image, at which block, and how many bytes.
+#[tactic(auto, using(crate::proofs::Laws::placed), unfolding(definitions::specs::ShutOff::refused_block))]
 #[unsafe(no_mangle)]
 pub extern "C" fn bm_refused_block<'a>(model: &'a [u8], estimate: &'a [u8]) -> u64
     ensures { result ≡ pack_part (clauses.read_both model.now estimate.now) (length (refused_block model.now estimate.now)) }
@@ -105,6 +102,7 @@ pub extern "C" fn bm_refused_block<'a>(model: &'a [u8], estimate: &'a [u8]) -> u
 }
 
 // The refused block, copied to the front of a lent buffer.
+#[tactic(auto, using(crate::proofs::Laws::fits), unfolding(crate::specs::Copied::copied, crate::specs::Copied::pack_copied))]
 #[unsafe(no_mangle)]
 pub extern "C" fn bm_copy_refused_block<'a>(
     model: &'a [u8],
@@ -115,10 +113,10 @@ pub extern "C" fn bm_copy_refused_block<'a>(
     ensures bytes { out.new ≡ copied (refused_block model.now estimate.now) out.old }
 {
     let part = analysis::refused_block(model, estimate);
-    if out.len() < part.len() {
+    let n = part.len();
+    if out.len() < n {
         return 7;
     }
-    let n = part.len();
     out[..n].copy_from_slice(part);
     packing::packed(0, 0, n, 0)
 }

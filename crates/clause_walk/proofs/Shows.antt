@@ -7,33 +7,30 @@ use mathlib.Core.Option.{none}
 use Prim.Native.Nat.{ℕ, ◌+◌, ◌*◌, ◌/◌, ◌%◌, ◌≤◌, ◌<◌}
 use native.Mathlib.Nat.{not-suc-le-zero}
 use native.Mathlib.Omega.{arith}
-use native.Mathlib.Decide.{ℕ_discrete}
 use borrow.Author.Rules.{rules}
 use lib.Dec.{T}
-use mir.Syntax.{w64}
-use mir.Val.{Fits}
 use lib.ListN.{length, get_or}
-use Rattle.definitions.specs.Bounded.{◌and◌, ◌is◌, any_below}
+use Rattle.definitions.specs.Bounded.{◌is◌, any_below}
 use Rattle.definitions.specs.Sets.{has, for_each, within}
 use Rattle.definitions.specs.Model as paper
 use Rattle.definitions.specs.Estimate.{Estimate, estimate_of}
 use Rattle.definitions.specs.Clauses.{clause5, clause6}
-use Rattle.definitions.proofs.Bounded.{and_iff, is_iff, any_iff, true_of, of_true}
+use Rattle.definitions.proofs.Bounded.{is_iff, any_iff, true_of, of_true}
 use Rattle.definitions.proofs.Sets.{for_each_iff, within_iff, within_trans}
 use Rattle.definitions.proofs.Clauses.{sets, clause3_iff, clause4_iff, clause7_iff, clause8_iff, clause9_iff}
-use Rattle.definitions.proofs.Loops.{fails, holds}
 use Rattle.records.specs.declared.Line.{Line}
 use Rattle.records.specs.Records.{line_in}
 use Rattle.records.specs.Places.{line_record_at}
+use Rattle.sets.specs.Ascending.{LowestOf}
 use Rattle.sets.specs.Names.{NamesOnly}
-use Rattle.sets.proofs.Walk.{walk_less, each_start, each_turn, each_stop, each_end}
-use Rattle.clauses.specs.Known.{BoxOfNames, EstimateOfNames, LineOfNames}
-use Rattle.clauses.proofs.Members.{left_62, left_64, names_rho, rho_names, box_62, names_62, second_62, box_there, boxed}
+use Rattle.sets.proofs.Walk.{EachLeft, each_start, each_turn, each_stop, each_end}
+use Rattle.clauses.specs.Known.{LineOfNames}
+use Rattle.clauses.proofs.Members.{left_62, names_rho, rho_names, box_62, names_62, second_62, box_there, boxed}
 use Rattle.sharing.specs.declared.Gathered.{Gathered}
 use Rattle.sharing.specs.Shared.{Least, all_sent_in, sent_by_others, shared_on, may_send, GatheredOf}
-use Rattle.sharing.proofs.Gather.{others_on, nothing_of, five-met, six_met}
+use Rattle.sharing.proofs.Gather.{others_on, five-met, six_met}
 use Rattle.line_gather.specs.Gathered.{LinesOfNames, Gathers}
-use Rattle.clause_walk.specs.Lines.{OpsOfNames, ListOfNames, NotExpose, NamesPass, ShowsNames, ListedPass, ShowsListed, ShowsList, LinePasses, ShowsLines}
+use Rattle.clause_walk.specs.Lines.{OpsOfNames, ListOfNames, NotExpose, NamesPass, ShowsNames, ListedPass, PassesWith, ShowsList, LinePasses, ShowsLines}
 
 -- ---- the names by operation
 
@@ -60,25 +57,24 @@ module _ (e : Estimate) (b : ℕ) (ops : List ℕ) where
 
 -- ---- outputs
 
-pub most_as : (e : Estimate) (boxes b p s v w : ℕ) (sent : List ℕ) (g : Gathered) (r : Bool) → GatheredOf e boxes b g → g.out ≡ s → s ≡ e.rho p → v ≡ get_or sent p 0
-    → r ≡ within v g.most → r ≡ may_send e b (e.rho p) (get_or sent p 0)
-most_as e boxes b p s v w sent g r h eo es ev er =
-    er ∙ h.most.same v ∙ ap (λ (x : ℕ). may_send e b x v) (eo ∙ es) ∙ ap (λ (x : ℕ). may_send e b (e.rho p) x) ev
+pub most_as : (e : Estimate) (boxes b p i s : ℕ) (sent : List ℕ) (g : Gathered) (r : Bool) → GatheredOf e boxes b g → g.out ≡ s → s ≡ e.rho p → i ≡ p
+    → r ≡ within (get_or sent i 0) g.most → r ≡ may_send e b (e.rho p) (get_or sent p 0)
+most_as e boxes b p i s sent g r h eo es ei er =
+    er ∙ h.most.same (get_or sent i 0) ∙ ap (λ (x : ℕ). may_send e b x (get_or sent i 0)) (eo ∙ es) ∙ ap (λ (x : ℕ). may_send e b (e.rho p) (get_or sent x 0)) ei
 
 -- ---- a line of the list
 
 module _ (e : Estimate) (boxes b : ℕ) (l : paper.Line) where
-  pub listed_no : ShowsListed e boxes b l false
-  listed_no = record { shows = λ t. absurd t }
-
   -- an expose, by its type
-  pub listed-expose : (x : ℕ) (r : Bool) → l.op ≡ 6 → x ≡ e.eps b l.name1 → r ≡ for_each l.type (λ g. within (e.rho g) x) → ShowsListed e boxes b l r
-  listed-expose x r o ex er = record {
-    shows = λ t. record {
+  pub listed_expose : (x : ℕ) (r : Bool) (g : Gathered) → l.op ≡ 6 → x ≡ e.eps b l.name1 → r ≡ for_each l.type (λ g. within (e.rho g) x) → r ≡ true
+      → GatheredOf e boxes b g → PassesWith e boxes b l g
+  listed_expose x r g o ex er t h = record {
+    passes = record {
       five = λ z. absurd (omega (arith, o, z));
       six = λ z. absurd (omega (arith, o, z));
-      type = λ _. subst (λ (y : ℕ). T (for_each l.type (λ g. within (e.rho g) y))) ex (of_true (sym er ∙ true_of r t));
+      type = λ _. subst (λ (y : ℕ). T (for_each l.type (λ g. within (e.rho g) y))) ex (of_true (sym er ∙ t));
     };
+    gathered = h;
   }
 
   module _ (s all : ℕ) (es : s ≡ e.rho l.name1) (other : NotExpose l) (least : Least all (all_sent_in e b s)) (five : Bool) (f : five ≡ within all (e.rho l.name2)) (t : five ≡ true) where
@@ -86,23 +82,27 @@ module _ (e : Estimate) (boxes b : ℕ) (l : paper.Line) where
     clause_5 = five-met e b l (of_true (ap (λ (x : ℕ). all_sent_in e b x (e.rho l.name2)) (sym es) ∙ sym (least.same (e.rho l.name2)) ∙ sym f ∙ t))
 
     -- an input: all that other boxes may send is in rho(q)
-    pub listed_others : (w : ℕ) (r : Bool) → Least w (sent_by_others e boxes b) → r ≡ within w (e.rho l.name2) → r ≡ true → ShowsListed e boxes b l true
-    listed_others w r o er u = record {
-      shows = λ _. record {
+    pub listed_others : (w : ℕ) (r : Bool) (g : Gathered) → Least w (sent_by_others e boxes b) → r ≡ within w (e.rho l.name2) → r ≡ true → GatheredOf e boxes b g
+        → PassesWith e boxes b l g
+    listed_others w r g o er u h = record {
+      passes = record {
         five = λ _. clause_5;
         six = λ _. six_met e boxes b l (others_on e boxes b w (e.rho l.name2) (e.rho l.name1) o (of_true (sym er ∙ u)));
         type = λ z. absurd (other.other z);
       };
+      gathered = h;
     }
 
     -- an input: what clause 6 asks is in rho(q)
-    pub listed_asks : (w : ℕ) (r : Bool) → Least w (shared_on e boxes b s) → r ≡ within w (e.rho l.name2) → ShowsListed e boxes b l r
-    listed_asks w r a er = record {
-      shows = λ u. record {
+    pub listed_asks : (w : ℕ) (r : Bool) (g : Gathered) → Least w (shared_on e boxes b s) → r ≡ within w (e.rho l.name2) → r ≡ true → GatheredOf e boxes b g
+        → PassesWith e boxes b l g
+    listed_asks w r g a er u h = record {
+      passes = record {
         five = λ _. clause_5;
-        six = λ _. six_met e boxes b l (of_true (ap (λ (x : ℕ). shared_on e boxes b x (e.rho l.name2)) (sym es) ∙ sym (a.same (e.rho l.name2)) ∙ sym er ∙ true_of r u));
+        six = λ _. six_met e boxes b l (of_true (ap (λ (x : ℕ). shared_on e boxes b x (e.rho l.name2)) (sym es) ∙ sym (a.same (e.rho l.name2)) ∙ sym er ∙ u));
         type = λ z. absurd (other.other z);
       };
+      gathered = h;
     }
 
 pub all_as : (e : Estimate) (boxes b s : ℕ) (g : Gathered) → GatheredOf e boxes b g → g.on ≡ s → Least g.all (all_sent_in e b s)
@@ -124,15 +124,6 @@ module _ (model : List ℕ) (e : Estimate) (boxes b k : ℕ) (listed : List ℕ)
   pub list_start : ListPassed model e boxes b k listed 0
   list_start = record { each = λ j l. absurd (not-suc-le-zero l) }
 
-  pub list_turn : (m i : ℕ) (l : paper.Line) (r : Bool) → ListPassed model e boxes b k listed m → i ≡ get_or listed m 0 → l ≡ line_record_at model k i → ShowsListed e boxes b l r
-      → r ≡ true → ListPassed model e boxes b k listed (m + 1)
-  list_turn m i l r p ei el s t = record { each = λ j a. pick j a (ℕ_discrete m j) }
-    where
-      pick : (j : ℕ) → j < m + 1 → Dec (m ≡ j) → ListedPass e boxes b (line_record_at model k (get_or listed j 0))
-      pick j a (yes z) = subst (λ (y : ℕ). ListedPass e boxes b (line_record_at model k (get_or listed y 0))) z
-          (subst (ListedPass e boxes b) (el ∙ ap (line_record_at model k) ei) (s.shows (of_true t)))
-      pick j a (no z) = p.each j (omega arith)
-
   pub list_no : (c : ℕ) → ShowsList model e boxes b k listed c false
   list_no c = record { shows = λ t. absurd t }
 
@@ -143,17 +134,11 @@ module _ (model : List ℕ) (k c m : ℕ) (listed : List ℕ) (f : ListOfNames m
   pub list_room : m < 128
   list_room = omega (arith, f.few)
 
-  pub list_next : Fits w64 (m + 1)
-  list_next = omega (arith, f.few)
-
   pub list_there : (i : ℕ) → i ≡ get_or listed m 0 → 512 * (k + 1 + i / 31 + 1) ≤ length model
   list_there i e = rw e (f.there m h)
 
   pub list_names : (i : ℕ) (l : paper.Line) → i ≡ get_or listed m 0 → l ≡ line_record_at model k i → LineOfNames l
   list_names i l ei el = subst LineOfNames (sym (el ∙ ap (line_record_at model k) ei)) (f.each m h)
-
-pub list_long : (model : List ℕ) (k c : ℕ) (listed : List ℕ) → ListOfNames model k listed c → length listed ≡ 128
-list_long model k c listed f = f.long
 
 -- ---- every line
 
@@ -163,17 +148,10 @@ module _ (model estimate : List ℕ) (k n c : ℕ) (ops sent listed : List ℕ) 
 
   pub list_named : ListOfNames model k listed c
   list_named = record {
-    long = g.listed_long;
     few = omega (arith, g.few, there.there.few);
     there = λ m l. there.there.there (get_or listed m 0) (g.inside m l);
     each = λ m l. there.each (get_or listed m 0) (g.inside m l);
   }
-
-  pub ops_long : length ops ≡ 16
-  ops_long = g.ops_long
-
-  pub sent_long : length sent ≡ 64
-  sent_long = g.sent_long
 
   module _ (boxes b : ℕ) where
     e : Estimate
@@ -182,8 +160,8 @@ module _ (model estimate : List ℕ) (k n c : ℕ) (ops sent listed : List ℕ) 
     pub lines_no : ShowsLines model (estimate_of estimate) boxes b k n false
     lines_no = record { shows = λ t. absurd t }
 
-    module _ (names : NamesPass (estimate_of estimate) b ops) (on : ℕ) (eo : on ≡ get_or ops 4 0)
-        (outputs : T (for_each on (λ p. may_send (estimate_of estimate) b ((estimate_of estimate).rho p) (get_or sent p 0))))
+    module _ (names : NamesPass (estimate_of estimate) b ops)
+        (outputs : T (for_each (get_or ops 4 0) (λ p. may_send (estimate_of estimate) b ((estimate_of estimate).rho p) (get_or sent p 0))))
         (list : (m : ℕ) → m < c → ListedPass (estimate_of estimate) boxes b (line_record_at model k (get_or listed m 0))) (i : ℕ) (h : i < n) where
       l : paper.Line
       l = line_record_at model k i
@@ -213,8 +191,8 @@ module _ (model estimate : List ℕ) (k n c : ℕ) (ops sent listed : List ℕ) 
             (clause3_iff (estimate_of estimate) b l).1
             ((for_each_iff (get_or ops 3 0) (λ n. has ((estimate_of estimate).rho n) n)).0 names.restricted l.name1 first (in_ops 3 (omega arith) z));
         four = λ z.
-            let may = (for_each_iff on (λ p. may_send (estimate_of estimate) b ((estimate_of estimate).rho p) (get_or sent p 0))).0 outputs l.name1 first
-            (subst (λ (x : ℕ). T (has x l.name1)) (sym eo) (in_ops 4 (omega arith) z)) in
+            let may = (for_each_iff (get_or ops 4 0) (λ p. may_send (estimate_of estimate) b ((estimate_of estimate).rho p) (get_or sent p 0))).0 outputs l.name1 first
+            (in_ops 4 (omega arith) z) in
             (clause4_iff (estimate_of estimate) b l).1
             (λ a u v. (within_iff ((estimate_of estimate).rho l.name2) ((estimate_of estimate).kap b a)).0
             (within_trans ((estimate_of estimate).rho l.name2) (get_or sent l.name1 0) ((estimate_of estimate).kap b a) (g.sends i h z)
@@ -235,20 +213,32 @@ module _ (model estimate : List ℕ) (k n c : ℕ) (ops sent listed : List ℕ) 
             ((for_each_iff (get_or ops 8 0) (λ p. within ((estimate_of estimate).rho p) ((estimate_of estimate).shown b))).0 names.unhides l.name1 first (in_ops 8 (omega arith) z)));
       }
 
-    pub lines_yes : (on : ℕ) (named outs r : Bool) → ShowsNames (estimate_of estimate) b ops named → named ≡ true → on ≡ get_or ops 4 0
-        → outs ≡ for_each on (λ p. may_send (estimate_of estimate) b ((estimate_of estimate).rho p) (get_or sent p 0)) → outs ≡ true
+    pub lines_yes : (named outs r : Bool) → ShowsNames (estimate_of estimate) b ops named → named ≡ true
+        → outs ≡ for_each (get_or ops 4 0) (λ p. may_send (estimate_of estimate) b ((estimate_of estimate).rho p) (get_or sent p 0)) → outs ≡ true
         → ShowsList model (estimate_of estimate) boxes b k listed c r → ShowsLines model (estimate_of estimate) boxes b k n r
     unfolding l
-    lines_yes on named outs r names tn eo eouts to list = record {
-      shows = λ t i h. one_line (names.shows (of_true tn)) on eo (of_true (sym eouts ∙ to)) (list.shows t) i h;
+    lines_yes named outs r names tn eouts to list = record {
+      shows = λ t i h. one_line (names.shows (of_true tn)) (of_true (sym eouts ∙ to)) (list.shows t) i h;
     }
 
-pub ruleset named = (rules, fails, holds, ops_62, names_no, names_yes)
+-- ---- a walk over the channels
 
-pub ruleset outputs = (rules, fails, holds, walk_less, left_62, left_64, each_start, each_turn, each_stop, each_end, names_rho, box_there, nothing_of, most_as)
+module _ (p : ℕ → Bool) (s left n t : ℕ) (b : Bool) (w : EachLeft p s left) (d : LowestOf left n t) (e : b ≡ p n) where
+  some-left : left ≡ 0 → ⊥
+  some-left z = omega (arith, d.some_left)
 
-pub ruleset inputs = (rules, fails, holds, rho_names, box_62, names_62, second_62, all_as, listed_no, listed-expose, listed_others, listed_asks, not-expose, type_names)
+  pub channel_stop : b ≡ false → false ≡ for_each s p
+  channel_stop f = each_stop p s left n b w some-left d.lowest e f
 
-pub ruleset lists = (rules, fails, holds, list_start, list_turn, list_no, list_end, list_room, list_there, list_names, list_long, list_next, nothing_of)
+  pub channel_turn : b ≡ true → EachLeft p s t
+  channel_turn f = each_turn p s left n b w some-left d.lowest e t d.others f
 
-pub ruleset shown = (rules, fails, holds, ops_named, list_named, ops_long, sent_long, lines_no, lines_yes, ops_62, boxed, second_62)
+pub ruleset named = (rules, ops_62, names_no, names_yes)
+
+pub ruleset outputs = (rules, left_62, each_end, names_rho, box_there)
+
+pub ruleset inputs = (rules, rho_names, box_62, names_62, second_62, all_as, listed_expose, listed_others, listed_asks, not-expose, type_names)
+
+pub ruleset lists = (rules, list_no, list_end, list_room, list_there, list_names)
+
+pub ruleset shown = (rules, ops_named, list_named, lines_no, lines_yes, ops_62, boxed, second_62)

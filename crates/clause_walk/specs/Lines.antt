@@ -8,6 +8,8 @@ use Rattle.definitions.specs.Clauses.{clause3, clause4, clause5, clause6, clause
 use Rattle.records.specs.Places.{line_record_at}
 use Rattle.sets.specs.Names.{NamesOnly}
 use Rattle.clauses.specs.Known.{LineOfNames}
+use Rattle.sharing.specs.declared.Gathered.{Gathered}
+use Rattle.sharing.specs.Shared.{GatheredOf}
 
 -- each set of first names has names below 60
 pub record OpsOfNames (ops : List ℕ) : Type 0 where
@@ -15,7 +17,6 @@ pub record OpsOfNames (ops : List ℕ) : Type 0 where
 
 -- the c lines of a list are there, each with names below 60
 pub record ListOfNames (model : List ℕ) (k : ℕ) (listed : List ℕ) (c : ℕ) : Type 0 where
-  pub long : length listed ≡ 128
   pub few : c ≤ 128
   pub there : (m : ℕ) → m < c → 512 * (k + 1 + get_or listed m 0 / 31 + 1) ≤ length model
   pub each : (m : ℕ) → m < c → LineOfNames (line_record_at model k (get_or listed m 0))
@@ -43,8 +44,10 @@ module _ (e : Estimate) where
     pub six : l.op ≡ input → clause6 e boxes b l ≡ none
     pub type : l.op ≡ expose → T (for_each l.type (λ g. within (e.rho g) (e.eps b l.name1)))
 
-  pub record ShowsListed (boxes b : ℕ) (l : Line) (r : Bool) : Type 0 where
-    pub shows : T r → ListedPass boxes b l
+  -- the same, with what clauses 4, 5 and 6 ask for the sets that it was gathered for
+  pub record PassesWith (boxes b : ℕ) (l : Line) (g : Gathered) : Type 0 where
+    pub passes : ListedPass boxes b l
+    pub gathered : GatheredOf e boxes b g
 
   -- no clause is broken at a line
   pub record LinePasses (boxes b : ℕ) (l : Line) : Type 0 where

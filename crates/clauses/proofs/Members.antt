@@ -13,17 +13,18 @@ use Rattle.definitions.proofs.Bounded.{and_iff, true_of, of_true}
 use lib.ListN.{length}
 use Rattle.records.specs.declared.Line.{Line}
 use Rattle.records.specs.Records.{line_in}
-use Rattle.sets.specs.Lowest.{lowest_of}
 use Rattle.sets.specs.Names.{NamesOnly}
-use Rattle.sets.proofs.Walk.{Left, left_name, lowest-below, walk_less}
-use Rattle.subsets.proofs.Walk.{short_start, short_turn, short_stop, short_end}
+use Rattle.sets.specs.Ascending.{LowestOf}
+use Rattle.sets.proofs.Walk.{Left, left_name}
+use Rattle.subsets.proofs.Walk.{ShortLeft, short_start, short_turn, short_stop, short_end}
 use Rattle.clauses.specs.Known.{BoxOfNames, EstimateOfNames, LineOfNames, MetWhere}
 
-pub left_62 : (s left n : ℕ) → NamesOnly s → Left s left → (left ≡ 0 → ⊥) → n ≡ lowest_of left → n < 62
-left_62 s left n f w z e = omega (arith, left_name s left n f w z e)
+-- the next member of a set of names
+pub left_62 : (s left n t : ℕ) → NamesOnly s → Left s left → LowestOf left n t → n < 62
+left_62 s left n t f w d = let z = d.some_left in omega (arith, left_name s left n f w (λ q. omega arith) d.lowest)
 
-pub left_64 : (s left n : ℕ) → Left s left → (left ≡ 0 → ⊥) → n ≡ lowest_of left → n < 64
-left_64 s left n w = lowest-below left n w.fit
+pub left_name_62 : (f : ℕ → Option ℕ) (s left n t : ℕ) → NamesOnly s → ShortLeft f s left → LowestOf left n t → n < 62
+left_name_62 f s left n t o w d = left_62 s left n t o w.there d
 
 -- v is the union of w and u
 abbrev pub UnionOf : ℕ → ℕ → ℕ → Type 0
@@ -84,4 +85,4 @@ box_1024 image b f = omega (arith, f.there)
 
 pub ruleset gathered = (rules, within_as)
 
-pub ruleset shorts = (rules, walk_less, left_62, left_64, short_start, short_turn, short_stop, short_end, absent_as, missing_as, names_rho)
+pub ruleset shorts = (rules, left_name_62, short_start, short_turn, short_stop, short_end, absent_as, missing_as, names_rho)

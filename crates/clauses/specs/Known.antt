@@ -1,8 +1,10 @@
 -- What is known of an estimate that has been read, and of a line of a model that has. Assumes nothing.
 use Rattle.std.specs.Prelude.{◌≡◌, Bool, List, ℕ, ◌+◌, ◌*◌, ◌≤◌, ◌<◌, T, length}
 use Rattle.std.proofs.Math.Option.{Option, none}
-use Rattle.definitions.specs.Model.{Line}
-use Rattle.definitions.specs.Estimate.{estimate_of}
+use Rattle.definitions.specs.Bounded.{◌is◌, ◌isnt◌, when, or_else}
+use Rattle.definitions.specs.Sets.{absent}
+use Rattle.definitions.specs.Model.{Site, Line}
+use Rattle.definitions.specs.Estimate.{Estimate, estimate_of}
 use Rattle.sets.specs.Names.{NamesOnly}
 
 -- the image of an estimate: box b's blocks are there, and rho(n) and shown(b) are sets of names
@@ -27,3 +29,7 @@ pub record LineOfNames (l : Line) : Type 0 where
 -- a clause that a test may show met: where it passes no name is missing
 pub record MetWhere (t : Bool) (o : Option ℕ) : Type 0 where
   pub met : T t → o ≡ none
+
+-- the subject of a starting site in shown(b) or hidden(b), as its byte says
+unfoldable pub on_wall : Estimate → ℕ → Site → Option ℕ
+on_wall e b s = or_else (when (s.flag is 0) (absent (e.shown b) s.subject)) (when (s.flag isnt 0) (absent (e.hidden b) s.subject))

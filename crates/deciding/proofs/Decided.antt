@@ -2,26 +2,24 @@
 use mathlib.Core.Path.{◌≡◌, refl, ap, sym, ◌∙◌}
 use mathlib.Core.Logic.{◌≢◌}
 use mathlib.Core.Bool.{Bool, true, false}
-use mathlib.Core.List.{List, [], ◌∷◌}
+use mathlib.Core.List.{List, []}
 use mathlib.Core.Option.{Option, none, some}
-use Prim.Native.Nat.{ℕ, ◌+◌, ◌≤◌, ◌<◌}
+use Prim.Native.Nat.{ℕ, ◌≤◌, ◌<◌}
 use native.Mathlib.Omega.{arith}
-use native.Mathlib.Decide.{ℕ_discrete}
-use lib.Dec.{T, ltb}
+use lib.Dec.{T, eqb}
 use Rattle.definitions.specs.Bounded.{◌and◌, ◌is◌, ◌isnt◌, ◌below◌}
 use Rattle.definitions.specs.Model.{Box, nil, parallel, replication, restriction, output, input, expose}
 use Rattle.definitions.specs.Model as model
-use Rattle.definitions.specs.Record.{held, stamp_limit, stamp, threads, sites, thread, set_stamp, put_thread, take_thread, push_site}
-use Rattle.definitions.specs.Start.{type_words}
+use Rattle.definitions.specs.Record.{stamp_limit, stamp, threads, sites, thread, put_thread, take_thread}
 use Rattle.definitions.specs.Moves as moves
 use Rattle.definitions.specs.Moves.{Outcome, refused, made, need, on_made, site_with, found, at, thread_line, onward, onward_with, value1, value2, at_line, drop_move, spread_move, new_move, copy_move, expose_move, turn_move, intra_move}
 use Rattle.definitions.specs.Calls.{outcome_number}
 use Rattle.definitions.proofs.Bounded.{and_iff, is_iff, isnt_iff, below_iff, true_of, of_true, false_of, not-false}
-use Rattle.definitions.proofs.Made.{site-found}
 use Rattle.records.specs.declared.Line.{Line}
 use Rattle.records.specs.Records.{line_in}
-use Rattle.lookups.specs.Found.{place_of}
-use Rattle.deciding.specs.Numbers.{unless, or_next, passed, line_number, turn_number, channel_number}
+use Rattle.deciding.specs.declared.Blocked.{Blocked}
+use Rattle.deciding.specs.declared.Blocked.TheVariants.{Nobody, WithSelf, WrongLine, Channel, NoSite, Unfit, Private, Full, Spent}
+use Rattle.deciding.specs.Numbers.{blocked_number, unless, passed, line_number, turn_number, channel_number}
 
 -- ---- a test in front of others
 
@@ -46,21 +44,34 @@ module _ {A : Type 0} where
   on_made_number f (refused n) = refl
   on_made_number f (made a) = refl
 
--- ---- the number a, or the next one
+-- ---- a reason's number
 
-pub or_stop : (a n : ℕ) → a ≢ 0 → a ≡ or_next a n
-unfolding or_next
-or_stop a n h = sym (ap (λ (c : Bool). elim c as (λ _. ℕ) [ true ↦ n | false ↦ a ]) (false_of (a is 0) (λ t. h ((is_iff a 0).0 t))))
+-- it is not 0
+pub blocked_not : (n : Blocked) → 0 ≡ blocked_number n → ⊥
+blocked_not Nobody e = omega (arith, e)
+blocked_not WithSelf e = omega (arith, e)
+blocked_not WrongLine e = omega (arith, e)
+blocked_not Channel e = omega (arith, e)
+blocked_not NoSite e = omega (arith, e)
+blocked_not Unfit e = omega (arith, e)
+blocked_not Private e = omega (arith, e)
+blocked_not Full e = omega (arith, e)
+blocked_not Spent e = omega (arith, e)
 
-pub or_go : (a n : ℕ) → a ≡ 0 → n ≡ or_next a n
-unfolding or_next
-or_go a n e = sym (ap (λ (c : Bool). elim c as (λ _. ℕ) [ true ↦ n | false ↦ a ]) (true_of (a is 0) ((is_iff a 0).1 e)))
+-- ---- room for a thread, and a stamp
 
-pub or_pass : (a n : ℕ) (b : Bool) → a ≡ 0 → b ≡ true → 0 ≡ or_next a (unless b n)
-or_pass a n b e t = ap (λ (c : Bool). unless c n) (sym t) ∙ or_go a (unless b n) e
+pub room_left : (m n : ℕ) → m ≡ n → m < 16 → 0 ≡ unless (n below 16) 19
+room_left m n e h = sym (ap (λ (b : Bool). unless b 19) (true_of (n below 16) ((below_iff n 16).1 (omega arith))))
 
-pub or_fail : (a n : ℕ) (b : Bool) → a ≡ 0 → b ≡ false → n ≡ or_next a (unless b n)
-or_fail a n b e t = ap (λ (c : Bool). unless c n) (sym t) ∙ or_go a (unless b n) e
+pub room_full : (m n : ℕ) → m ≡ n → 16 ≤ m → 19 ≡ unless (n below 16) 19
+room_full m n e h =
+    sym (ap (λ (b : Bool). unless b 19) (false_of (n below 16) (λ t. let q = (below_iff n 16).0 t in omega arith)))
+
+pub stamp_there : (s n : ℕ) (b : Bool) → s ≡ n → b ≡ (s below stamp_limit) → b ≡ true → 0 ≡ unless (n below stamp_limit) 20
+stamp_there s n b e d t = ap (λ (c : Bool). unless c 20) (sym t ∙ d) ∙ ap (λ (m : ℕ). unless (m below stamp_limit) 20) e
+
+pub stamp_spent : (s n : ℕ) (b : Bool) → s ≡ n → b ≡ (s below stamp_limit) → b ≡ false → 20 ≡ unless (n below stamp_limit) 20
+stamp_spent s n b e d t = ap (λ (c : Bool). unless c 20) (sym t ∙ d) ∙ ap (λ (m : ℕ). unless (m below stamp_limit) 20) e
 
 -- ---- a thread at a line
 
@@ -91,42 +102,41 @@ module _ (kinds : List ℕ) (x : Box) (r : List ℕ) (t op : ℕ) where
         need_no ((thread_line kinds x r t).op is op) 14 passed (λ u. z (op_is ∙ (is_iff (thread_line kinds x r t).op op).0 u))
         ∙ sym (need_yes (t below threads r) 12 _ live)
 
-  -- a number 0 says that the thread is there, at the line
-  zero_of : (a b : Bool) → outcome_number (tests a b passed) ≡ 0 → T a × T b
+  -- an allowed line says that the thread is there, at the line
+  zero_of : (a b : Bool) → 0 ≡ outcome_number (tests a b passed) → T a × T b
   unfolding tests
   zero_of true true e = (tt, tt)
-  zero_of true false e = let z : ◌≡◌ {A = ℕ} 14 0 = e in absurd (omega arith)
-  zero_of false b e = let z : ◌≡◌ {A = ℕ} 12 0 = e in absurd (omega arith)
+  zero_of true false e = let z : ◌≡◌ {A = ℕ} 0 14 = e in absurd (omega arith)
+  zero_of false b e = let z : ◌≡◌ {A = ℕ} 0 12 = e in absurd (omega arith)
 
-  at_zero : (a : ℕ) → a ≡ line_number kinds x r t op → a ≡ 0 → T (t below threads r) × T ((thread_line kinds x r t).op is op)
+  at_zero : 0 ≡ line_number kinds x r t op → T (t below threads r) × T ((thread_line kinds x r t).op is op)
   unfolding line_number at_line tests
-  at_zero a e z = zero_of (t below threads r) ((thread_line kinds x r t).op is op) (sym e ∙ z)
+  at_zero z = zero_of (t below threads r) ((thread_line kinds x r t).op is op) z
 
-  pub zero_live : (a : ℕ) → a ≡ line_number kinds x r t op → a ≡ 0 → t < threads r
-  zero_live a e z = (below_iff t (threads r)).0 (at_zero a e z).0
+  pub zero_live : 0 ≡ line_number kinds x r t op → t < threads r
+  zero_live z = (below_iff t (threads r)).0 (at_zero z).0
 
-  pub zero-line : (a : ℕ) → a ≡ line_number kinds x r t op → a ≡ 0 → (thread_line kinds x r t).op ≡ op
-  zero-line a e z = (is_iff (thread_line kinds x r t).op op).0 (at_zero a e z).1
+  pub zero-line : 0 ≡ line_number kinds x r t op → (thread_line kinds x r t).op ≡ op
+  zero-line z = (is_iff (thread_line kinds x r t).op op).0 (at_zero z).1
 
-  -- a move that asks for a line first
-  pub at-line_number : (o : Outcome (List ℕ)) → outcome_number (at_line kinds x r t op o) ≡ or_next (line_number kinds x r t op) (outcome_number o)
+  -- a move that asks for a line first: refused for the line, or as what comes next
+  pub line_stops : (n : Blocked) (o : Outcome (List ℕ)) → blocked_number n ≡ line_number kinds x r t op
+      → blocked_number n ≡ outcome_number (at_line kinds x r t op o)
   unfolding line_number at_line tests
-  at-line_number o = go (t below threads r) ((thread_line kinds x r t).op is op)
+  line_stops n o e = go (t below threads r) ((thread_line kinds x r t).op is op) e
     where
-      go : (a b : Bool) → outcome_number (tests a b o) ≡ or_next (outcome_number (tests a b passed)) (outcome_number o)
-      go true true = or_go 0 (outcome_number o) refl
-      go true false = or_stop 14 (outcome_number o) (λ z. omega (arith, z))
-      go false b = or_stop 12 (outcome_number o) (λ z. omega (arith, z))
+      go : (a b : Bool) → blocked_number n ≡ outcome_number (tests a b passed) → blocked_number n ≡ outcome_number (tests a b o)
+      go true true e = absurd (blocked_not n (sym e))
+      go true false e = e
+      go false b e = e
+
+  pub line_goes : (v : ℕ) (o : Outcome (List ℕ)) → 0 ≡ line_number kinds x r t op → v ≡ outcome_number o → v ≡ outcome_number (at_line kinds x r t op o)
+  unfolding line_number at_line tests
+  line_goes v o z e = e ∙ sym (need_yes (t below threads r) 12 _ (at_zero z).0 ∙ need_yes ((thread_line kinds x r t).op is op) 14 o (at_zero z).1)
 
 -- ---- the moves inside a box, by the line's number and the test that comes next
 
 module _ (kinds : List ℕ) (x : Box) (r : List ℕ) (t : ℕ) where
-  next : (op k : ℕ) (b : Bool) (w : List ℕ) (a v : ℕ) → a ≡ line_number kinds x r t op → v ≡ or_next a (unless b k)
-      → v ≡ outcome_number (at_line kinds x r t op (need b k (made w)))
-  next op k b w a v e q =
-      q ∙ ap (λ (n : ℕ). or_next n (unless b k)) e ∙ ap (or_next (line_number kinds x r t op)) (sym (need-last b k w))
-      ∙ sym (at-line_number kinds x r t op (need b k (made w)))
-
   pub drop_number : (a : ℕ) → a ≡ line_number kinds x r t nil → a ≡ outcome_number (drop_move kinds x r t)
   unfolding drop_move line_number at_line
   drop_number a e = e ∙ same (t below threads r) ((thread_line kinds x r t).op is nil) []
@@ -136,108 +146,80 @@ module _ (kinds : List ℕ) (x : Box) (r : List ℕ) (t : ℕ) where
       same true false w = refl
       same false d w = refl
 
-  pub spread_number : (a n v : ℕ) → a ≡ line_number kinds x r t parallel → n ≡ threads r → v ≡ or_next a (unless (ltb n 16) 19)
-      → v ≡ outcome_number (spread_move kinds x r t)
-  unfolding spread_move ◌below◌
-  spread_number a n v e d q = next parallel 19 (ltb (threads r) 16) _ a v e (q ∙ ap (λ (i : ℕ). or_next a (unless (ltb i 16) 19)) d)
+  module _ (n : Blocked) where
+    pub spread_stop : blocked_number n ≡ line_number kinds x r t parallel → blocked_number n ≡ outcome_number (spread_move kinds x r t)
+    unfolding spread_move
+    spread_stop e = line_stops kinds x r t parallel n _ e
 
-  pub new_number_lem : (a n : ℕ) (b : Bool) (v : ℕ) → a ≡ line_number kinds x r t restriction → n ≡ stamp r → b ≡ (n below stamp_limit) → v ≡ or_next a (unless b 20)
+    pub new_stop : blocked_number n ≡ line_number kinds x r t restriction → blocked_number n ≡ outcome_number (new_move kinds x r t)
+    unfolding new_move
+    new_stop e = line_stops kinds x r t restriction n _ e
+
+    pub copy_stop : blocked_number n ≡ line_number kinds x r t replication → blocked_number n ≡ outcome_number (copy_move kinds x r t)
+    unfolding copy_move
+    copy_stop e = line_stops kinds x r t replication n _ e
+
+    pub expose_stop : blocked_number n ≡ line_number kinds x r t expose → blocked_number n ≡ outcome_number (expose_move kinds x r t)
+    unfolding expose_move
+    expose_stop e = line_stops kinds x r t expose n _ e
+
+    pub turn_stop : (op before : ℕ) → blocked_number n ≡ line_number kinds x r t op → blocked_number n ≡ turn_number kinds x r op before t
+    unfolding turn_number
+    turn_stop op before e = line_stops kinds x r t op n _ e
+
+  pub spread_number : (v : ℕ) → 0 ≡ line_number kinds x r t parallel → v ≡ unless (threads r below 16) 19 → v ≡ outcome_number (spread_move kinds x r t)
+  unfolding spread_move
+  spread_number v z e = line_goes kinds x r t parallel v _ z (e ∙ sym (need-last (threads r below 16) 19 _))
+
+  pub new_number_lem : (v : ℕ) → 0 ≡ line_number kinds x r t restriction → v ≡ unless (stamp r below stamp_limit) 20
       → v ≡ outcome_number (new_move kinds x r t)
   unfolding new_move
-  new_number_lem a n b v e d p q =
-      next restriction 20 (stamp r below stamp_limit) _ a v e (q ∙ ap (λ (c : Bool). or_next a (unless c 20)) (p ∙ ap (λ (i : ℕ). i below stamp_limit) d))
+  new_number_lem v z e = line_goes kinds x r t restriction v _ z (e ∙ sym (need-last (stamp r below stamp_limit) 20 _))
 
-  pub copy_number : (a n v : ℕ) → a ≡ line_number kinds x r t replication → n ≡ threads r → v ≡ or_next a (unless (ltb n 16) 19)
-      → v ≡ outcome_number (copy_move kinds x r t)
-  unfolding copy_move ◌below◌
-  copy_number a n v e d q = next replication 19 (ltb (threads r) 16) _ a v e (q ∙ ap (λ (i : ℕ). or_next a (unless (ltb i 16) 19)) d)
+  pub copy_number : (v : ℕ) → 0 ≡ line_number kinds x r t replication → v ≡ unless (threads r below 16) 19 → v ≡ outcome_number (copy_move kinds x r t)
+  unfolding copy_move
+  copy_number v z e = line_goes kinds x r t replication v _ z (e ∙ sym (need-last (threads r below 16) 19 _))
 
-  or-or : (a : ℕ) (b c : Bool) (w : List ℕ) → or_next (or_next a (unless b 19)) (unless c 20) ≡ or_next a (outcome_number (need b 19 (need c 20 (made w))))
-  or-or a b c w = pick (ℕ_discrete a 0) b
-    where
-      pick : Dec (a ≡ 0) → (b : Bool) → or_next (or_next a (unless b 19)) (unless c 20) ≡ or_next a (outcome_number (need b 19 (need c 20 (made w))))
-      pick (no h) b =
-          ap (λ (n : ℕ). or_next n (unless c 20)) (sym (or_stop a (unless b 19) h)) ∙ sym (or_stop a (unless c 20) h) ∙ or_stop a _ h
-      pick (yes e) true =
-          ap (λ (n : ℕ). or_next n (unless c 20)) (sym (or_go a 0 e)) ∙ sym (or_go 0 (unless c 20) refl)
-          ∙ sym (need-last c 20 w) ∙ or_go a (outcome_number (need c 20 (made w))) e
-      pick (yes e) false =
-          ap (λ (n : ℕ). or_next n (unless c 20)) (sym (or_go a 19 e)) ∙ sym (or_stop 19 (unless c 20) (λ z. omega (arith, z))) ∙ or_go a 19 e
+  module _ (n : ℕ) (z : 0 ≡ line_number kinds x r t expose) (d : n ≡ sites r) where
+    pub expose_full : 16 ≤ n → 19 ≡ outcome_number (expose_move kinds x r t)
+    unfolding expose_move
+    expose_full h =
+        line_goes kinds x r t expose 19 _ z (need_no (sites r below 16) 19 _ (λ q. let p = (below_iff (sites r) 16).0 q in omega arith))
 
-  pub expose_number : (a n s : ℕ) (b : Bool) (f v : ℕ) → a ≡ line_number kinds x r t expose → n ≡ sites r → s ≡ stamp r → b ≡ (s below stamp_limit)
-      → f ≡ or_next a (unless (ltb n 16) 19) → v ≡ or_next f (unless b 20) → v ≡ outcome_number (expose_move kinds x r t)
-  unfolding expose_move ◌below◌
-  expose_number a n s b f v e d g h p q =
-      q ∙ ap (λ (i : ℕ). or_next i (unless b 20)) p
-      ∙ ap (λ (c : Bool). or_next (or_next a (unless (ltb n 16) 19)) (unless c 20)) (h ∙ ap (λ (i : ℕ). ltb i stamp_limit) g)
-      ∙ ap (λ (i : ℕ). or_next (or_next a (unless (ltb i 16) 19)) (unless (ltb (stamp r) stamp_limit) 20)) d
-      ∙ or-or a (ltb (sites r) 16) (ltb (stamp r) stamp_limit) []
-      ∙ ap (λ (i : ℕ). or_next i (outcome_number (need (ltb (sites r) 16) 19 (need (ltb (stamp r) stamp_limit) 20 passed)))) e
-      ∙ ap (or_next (line_number kinds x r t expose)) (same (ltb (sites r) 16) (ltb (stamp r) stamp_limit))
-      ∙ sym (at-line_number kinds x r t expose (need (ltb (sites r) 16) 19 (need (ltb (stamp r) stamp_limit) 20 (made left))))
-    where
-      left : List ℕ
-      left =
-          let y = (thread_line kinds x r t).name1 in
-          push_site (put_thread (set_stamp r (stamp r + 1)) t (onward_with kinds x r t y (held y (stamp r + 1))))
-          (held y (stamp r + 1) ∷ 0 ∷ type_words (moves.value_in kinds (thread r t)) (thread_line kinds x r t).type)
-
-      same : (b c : Bool) → outcome_number (need b 19 (need c 20 passed)) ≡ outcome_number (need b 19 (need c 20 (made left)))
-      same true true = refl
-      same true false = refl
-      same false c = refl
+    pub expose_number : (v : ℕ) → n < 16 → v ≡ unless (stamp r below stamp_limit) 20 → v ≡ outcome_number (expose_move kinds x r t)
+    unfolding expose_move
+    expose_number v h e =
+        line_goes kinds x r t expose v _ z (e ∙ sym (need-last (stamp r below stamp_limit) 20 _)
+        ∙ sym (need_yes (sites r below 16) 19 _ ((below_iff (sites r) 16).1 (omega arith))))
 
   pub turn_number_lem : (op before after v : ℕ) → v ≡ turn_number kinds x r op before t → v ≡ outcome_number (turn_move kinds x r op before after t)
-  unfolding turn_number turn_move
-  turn_number_lem op before after v q = next op 16 (found (site_with r (value1 kinds x r t) before)) _ (line_number kinds x r t op) v refl q
+  unfolding turn_number turn_move at_line
+  turn_number_lem op before after v q =
+      let lined = (thread_line kinds x r t).op is op in
+      let sited = found (site_with r (value1 kinds x r t) before) in
+      q ∙ need-same (t below threads r) 12 (need lined 14 (need sited 16 passed)) _
+      (need-same lined 14 (need sited 16 passed) _ (need-same sited 16 passed (made _) refl))
 
--- ---- the site with a held name
+module _ (kinds : List ℕ) (x : Box) (r : List ℕ) (op before t v : ℕ) (l : Line) (z : 0 ≡ line_number kinds x r t op)
+    (q : line_in l ≡ thread_line kinds x r t) (d : v ≡ moves.value_in kinds (thread r t) l.name1.0) where
+  channel : v ≡ value1 kinds x r t
+  unfolding value1
+  channel = d ∙ ap (λ (k : model.Line). moves.value_in kinds (thread r t) k.name1) q
 
-found_some : (o : Option ℕ) (i : ℕ) → i ≡ place_of o → i < 16 → (o ≡ some i) × T (found o)
-found_some none i e h = absurd (omega arith)
-found_some (some j) i e h = (ap some (sym e), tt)
+  there : (o : Option ℕ) → o ≡ site_with r v before → found o ≡ found (site_with r (value1 kinds x r t) before)
+  there o w = ap found (w ∙ ap (λ (n : ℕ). site_with r n before) channel)
 
-module _ (r : List ℕ) (v f i : ℕ) (e : i ≡ place_of (site_with r v f)) where
-  pub found-there : i < 16 → T (found (site_with r v f))
-  found-there h = (found_some (site_with r v f) i e h).1
-
-  pub found_at : i < 16 → at (site_with r v f) ≡ i
-  found_at h = ap at (found_some (site_with r v f) i e h).0
-
-  pub found_none : 16 ≤ i → T (found (site_with r v f)) → ⊥
-  found_none h = go (site_with r v f) refl
-    where
-      go : (o : Option ℕ) → site_with r v f ≡ o → T (found o) → ⊥
-      go none q t = t
-      go (some j) q t = let s = site-found r v f j q in let z : i ≡ j = e ∙ ap place_of q in omega (arith, s.low)
-
-module _ (kinds : List ℕ) (x : Box) (r : List ℕ) (op before t : ℕ) where
-  pub turn_stop : (a : ℕ) → a ≡ line_number kinds x r t op → a ≢ 0 → a ≡ turn_number kinds x r op before t
+  pub turn_yes : (i : ℕ) → some i ≡ site_with r v before → 0 ≡ turn_number kinds x r op before t
   unfolding turn_number
-  turn_stop a e h =
-      or_stop a (unless (found (site_with r (value1 kinds x r t) before)) 16) h
-      ∙ ap (λ (n : ℕ). or_next n (unless (found (site_with r (value1 kinds x r t) before)) 16)) e
+  turn_yes i w =
+      line_goes kinds x r t op 0 _ z
+      (sym (need_yes (found (site_with r (value1 kinds x r t) before)) 16 passed (of_true (sym (there (some i) w)))))
 
-  module _ (a v i : ℕ) (l : Line) (e : a ≡ line_number kinds x r t op) (z : a ≡ 0) (q : line_in l ≡ thread_line kinds x r t)
-      (d : v ≡ moves.value_in kinds (thread r t) l.name1.0) (w : i ≡ place_of (site_with r v before)) where
-    channel : v ≡ value1 kinds x r t
-    unfolding value1
-    channel = d ∙ ap (λ (k : model.Line). moves.value_in kinds (thread r t) k.name1) q
-
-    here : i ≡ place_of (site_with r (value1 kinds x r t) before)
-    here = w ∙ ap (λ (n : ℕ). place_of (site_with r n before)) channel
-
-    whole : (n : ℕ) → n ≡ unless (found (site_with r (value1 kinds x r t) before)) 16 → n ≡ turn_number kinds x r op before t
-    unfolding turn_number
-    whole n p =
-        p ∙ or_go a (unless (found (site_with r (value1 kinds x r t) before)) 16) z
-        ∙ ap (λ (m : ℕ). or_next m (unless (found (site_with r (value1 kinds x r t) before)) 16)) e
-
-    pub turn_yes : i < 16 → 0 ≡ turn_number kinds x r op before t
-    turn_yes h = whole 0 (sym (ap (λ (b : Bool). unless b 16) (true_of (found (site_with r (value1 kinds x r t) before)) (found-there r (value1 kinds x r t) before i here h))))
-
-    pub turn-none : 16 ≤ i → 16 ≡ turn_number kinds x r op before t
-    turn-none h = whole 16 (sym (ap (λ (b : Bool). unless b 16) (false_of (found (site_with r (value1 kinds x r t) before)) (found_none r (value1 kinds x r t) before i here h))))
+  pub turn-none : none ≡ site_with r v before → 16 ≡ turn_number kinds x r op before t
+  unfolding turn_number
+  turn-none w =
+      line_goes kinds x r t op 16 _ z
+      (need_no (found (site_with r (value1 kinds x r t) before)) 16 passed (not-false (sym (there none w))))
 
 -- ---- intra
 
@@ -290,10 +272,12 @@ module _ (kinds : List ℕ) (x : Box) (r : List ℕ) (t u : ℕ) where
             ∙ sym (need_yes ((thread_line kinds x r t).op is input and (thread_line kinds x r u).op is output) 14
             (need (value1 kinds x r t is value1 kinds x r u) 15 passed) ops)
 
-        pub channel_same : (a : Bool) → a ≡ (v is w) → a ≡ true → 0 ≡ channel_number kinds x r t u
+        pub channel_same : (a : Bool) → a ≡ eqb v w → a ≡ true → 0 ≡ channel_number kinds x r t u
+        unfolding ◌is◌
         channel_same a h z = channel_one ((is_iff v w).0 (of_true (sym h ∙ z)))
 
-        pub channel_other : (a : Bool) → a ≡ (v is w) → a ≡ false → 15 ≡ channel_number kinds x r t u
+        pub channel_other : (a : Bool) → a ≡ eqb v w → a ≡ false → 15 ≡ channel_number kinds x r t u
+        unfolding ◌is◌
         channel_other a h z = channel_two (λ y. not-false (sym h ∙ z) ((is_iff v w).1 y))
 
   module _ (n : ℕ) (e : n ≡ threads r) where

@@ -2,7 +2,8 @@
 use mathlib.Core.Path.{◌≡◌, refl, ap, sym, ◌∙◌}
 use mathlib.Core.Logic.{◌≢◌}
 use mathlib.Core.Bool.{Bool, true, false, not}
-use mathlib.Core.List.{List, []}
+use mathlib.Core.List.{List}
+use mathlib.Core.Option.{none, some}
 use Prim.Native.Nat.{ℕ, ◌≤◌, ◌<◌}
 use native.Mathlib.Omega.{arith}
 use lib.Dec.{T, eqb}
@@ -13,13 +14,13 @@ use Rattle.definitions.specs.Image.{kinds_of, model_of}
 use Rattle.definitions.specs.Record.{held_number, threads, site, thread, put_thread}
 use Rattle.definitions.specs.Moves.{Ends, made, need, onward, onward_with, site_with, found, at, types_share, value_in, thread_line, value1, value2, inter_move}
 use Rattle.definitions.specs.Calls.{outcome_number}
-use Rattle.definitions.proofs.Bounded.{and_iff, is_iff, isnt_iff, below_iff, true_of, of_true, false_of, not-false}
+use Rattle.definitions.proofs.Bounded.{and_iff, is_iff, isnt_iff, below_iff, of_true, not-false}
 use Rattle.definitions.proofs.Image.{model_kinds}
+use Rattle.definitions.proofs.Made.{site-found}
 use Rattle.records.specs.declared.Line.{Line}
 use Rattle.records.specs.Records.{line_in}
-use Rattle.lookups.specs.Found.{place_of}
 use Rattle.deciding.specs.Numbers.{passed, is_private, site_tests, channels_number, inter_number}
-use Rattle.deciding.proofs.Decided.{need_yes, need_no, need-same, found-there, found_at, found_none}
+use Rattle.deciding.proofs.Decided.{need_yes, need_no, need-same}
 
 -- ---- 16 and 17
 
@@ -30,40 +31,55 @@ module _ (r s : List ℕ) (v w : ℕ) where
   fit : Bool
   fit = types_share (site r (at (site_with r v 0))) (site s (at (site_with s w 0)))
 
-  module _ (i a : ℕ) (e : a ≡ v) (d : i ≡ place_of (site_with r a 0)) where
-    one : i ≡ place_of (site_with r v 0)
-    one = d ∙ ap (λ (n : ℕ). place_of (site_with r n 0)) e
+  module _ (i j : ℕ) (d : some i ≡ site_with r v 0) (g : some j ≡ site_with s w 0) (b : Bool) (z : b ≡ types_share (site r i) (site s j)) where
+    there : T both
+    unfolding both
+    there = (and_iff (found (site_with r v 0)) (found (site_with s w 0))).1 (of_true (sym (ap found d)), of_true (sym (ap found g)))
 
-    pub ends_none : 16 ≤ i → 16 ≡ outcome_number (site_tests r s v w)
+    fits : b ≡ fit
+    unfolding fit
+    fits =
+        z ∙ ap (λ (n : ℕ). types_share (site r n) (site s j)) (ap at d)
+        ∙ ap (λ (n : ℕ). types_share (site r (at (site_with r v 0))) (site s n)) (ap at g)
+
+    unfit : b ≡ false → 17 ≡ outcome_number (site_tests r s v w)
+    unfolding site_tests both fit
+    unfit q = need_no fit 17 passed (not-false (sym fits ∙ q)) ∙ sym (need_yes both 16 (need fit 17 passed) there)
+
+    meet : b ≡ true → 0 ≡ outcome_number (site_tests r s v w)
+    unfolding site_tests both fit
+    meet q = sym (need_yes both 16 (need fit 17 passed) there ∙ need_yes fit 17 passed (of_true (sym fits ∙ q)))
+
+-- the sites that are looked for by what the channels stand for, if there are such
+pub site_low : (r : List ℕ) (v i : ℕ) → some i ≡ site_with r v 0 → i < 16
+site_low r v i e = (site-found r v 0 i (sym e)).low
+
+module _ (r s : List ℕ) (v w a : ℕ) (e : a ≡ v) where
+  one : site_with r a 0 ≡ site_with r v 0
+  one = ap (λ (n : ℕ). site_with r n 0) e
+
+  pub ends_none : none ≡ site_with r a 0 → 16 ≡ outcome_number (site_tests r s v w)
+  unfolding site_tests
+  ends_none d =
+      need_no (found (site_with r v 0) and found (site_with s w 0)) 16 _
+      (λ t. not-false (sym (ap found (d ∙ one))) ((and_iff (found (site_with r v 0)) (found (site_with s w 0))).0 t).0)
+
+  module _ (c : ℕ) (f : c ≡ w) where
+    two : site_with s c 0 ≡ site_with s w 0
+    two = ap (λ (n : ℕ). site_with s n 0) f
+
+    pub ends_none2 : none ≡ site_with s c 0 → 16 ≡ outcome_number (site_tests r s v w)
     unfolding site_tests
-    ends_none h = need_no (found (site_with r v 0) and found (site_with s w 0)) 16 _ (λ t. found_none r v 0 i one h ((and_iff (found (site_with r v 0)) (found (site_with s w 0))).0 t).0)
+    ends_none2 g =
+        need_no (found (site_with r v 0) and found (site_with s w 0)) 16 _
+        (λ t. not-false (sym (ap found (g ∙ two))) ((and_iff (found (site_with r v 0)) (found (site_with s w 0))).0 t).1)
 
-    module _ (j c : ℕ) (f : c ≡ w) (g : j ≡ place_of (site_with s c 0)) where
-      two : j ≡ place_of (site_with s w 0)
-      two = g ∙ ap (λ (n : ℕ). place_of (site_with s n 0)) f
+    module _ (i j : ℕ) (d : some i ≡ site_with r a 0) (g : some j ≡ site_with s c 0) (b : Bool) (z : b ≡ types_share (site r i) (site s j)) where
+      pub ends_unfit : b ≡ false → 17 ≡ outcome_number (site_tests r s v w)
+      ends_unfit q = unfit r s v w i j (d ∙ one) (g ∙ two) b z q
 
-      pub ends_none2 : 16 ≤ j → 16 ≡ outcome_number (site_tests r s v w)
-      unfolding site_tests
-      ends_none2 h = need_no (found (site_with r v 0) and found (site_with s w 0)) 16 _ (λ t. found_none s w 0 j two h ((and_iff (found (site_with r v 0)) (found (site_with s w 0))).0 t).1)
-
-      module _ (hi : i < 16) (hj : j < 16) (b : Bool) (z : b ≡ types_share (site r i) (site s j)) where
-        there : T both
-        unfolding both
-        there = (and_iff (found (site_with r v 0)) (found (site_with s w 0))).1 (found-there r v 0 i one hi, found-there s w 0 j two hj)
-
-        fits : b ≡ fit
-        unfolding fit
-        fits =
-            z ∙ ap (λ (n : ℕ). types_share (site r n) (site s j)) (sym (found_at r v 0 i one hi))
-            ∙ ap (λ (n : ℕ). types_share (site r (at (site_with r v 0))) (site s n)) (sym (found_at s w 0 j two hj))
-
-        pub ends_unfit : b ≡ false → 17 ≡ outcome_number (site_tests r s v w)
-        unfolding site_tests both fit
-        ends_unfit q = need_no fit 17 passed (not-false (sym fits ∙ q)) ∙ sym (need_yes both 16 (need fit 17 passed) there)
-
-        pub ends_meet : b ≡ true → 0 ≡ outcome_number (site_tests r s v w)
-        unfolding site_tests both fit
-        ends_meet q = sym (need_yes both 16 (need fit 17 passed) there ∙ need_yes fit 17 passed (of_true (sym fits ∙ q)))
+      pub ends_meet : b ≡ true → 0 ≡ outcome_number (site_tests r s v w)
+      ends_meet q = meet r s v w i j (d ∙ one) (g ∙ two) b z q
 
 -- ---- 18, and then the sites
 

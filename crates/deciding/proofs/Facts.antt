@@ -6,7 +6,7 @@ use native.Mathlib.Omega.{arith}
 use lib.ListN.{length}
 use Rattle.definitions.specs.Model as model
 use Rattle.definitions.specs.Model.{Model, box_at, box_count, restriction, output, input, expose, hide, unhide}
-use Rattle.definitions.specs.Image.{name_count, boxes_of, model_of}
+use Rattle.definitions.specs.Image.{name_count, model_of}
 use Rattle.definitions.specs.Record.{held_number, threads, thread, line}
 use Rattle.definitions.specs.Moves.{value_in, thread_line, value2}
 use Rattle.definitions.proofs.Valid.{ValidLine}
@@ -14,7 +14,7 @@ use Rattle.isolation.proofs.KeepMoves.{sent_fits}
 use Rattle.records.specs.declared.Line.{Line}
 use Rattle.records.specs.Records.{line_in}
 use Rattle.lookups.specs.Ready.{BoxReady}
-use Rattle.lookups.proofs.Ready.{read_head, read_names, first_of, listed_name, ready_length, ready_sites, ready_thread, ready_record, ready_valid, ready_inside, ready_stands}
+use Rattle.lookups.proofs.Ready.{read_head, read_names, first_of, listed_name, ready_sites, ready_thread, ready_record, ready_valid, ready_inside, ready_stands}
 use Rattle.deciding.specs.Numbers.{line_number, EndReady, SentReady}
 use Rattle.deciding.proofs.Decided.{zero_live, zero-line}
 
@@ -34,7 +34,7 @@ module _ {image : List ℕ} {places b : ℕ} {r : List ℕ} (k : BoxReady image 
     output-listed e = listed_name image l.name1.0 (mine.output_listed e)
 
     end_ready : (p : ℕ) → p < name_count image → EndReady image r t p
-    end_ready p e = record { read = k.read; long = ready_length k; most = ready_sites k; slot = ready_thread k t h; listed = e }
+    end_ready p e = record { read = k.read; most = ready_sites k; slot = ready_thread k t h; listed = e }
 
     pub input_ready : l.op ≡ 5 → EndReady image r t l.name1.0
     input_ready e = end_ready l.name1.0 (input-listed e)
@@ -51,12 +51,12 @@ module _ {image : List ℕ} {places b : ℕ} {r : List ℕ} (k : BoxReady image 
           (sent_fits (model_of image) (ready_valid k) b (ready_inside k) k.last r (ready_record k) t h (sym (ap (λ (n : model.Line). n.op) q) ∙ e)).listed);
     }
 
-  pub turn-listed : (op t a : ℕ) (l : Line) → a ≡ line_number (model_of image).kinds (box_at (model_of image) b) r t op → a ≡ 0 → 3 ≤ op
+  pub turn-listed : (op t : ℕ) (l : Line) → 0 ≡ line_number (model_of image).kinds (box_at (model_of image) b) r t op → 3 ≤ op
       → line_in l ≡ thread_line (model_of image).kinds (box_at (model_of image) b) r t → l.name1.0 < name_count image
-  turn-listed op t a l e z h q =
+  turn-listed op t l z h q =
       let x = box_at (model_of image) b in
-      let live = zero_live (model_of image).kinds x r t op a e z in
-      let is = zero-line (model_of image).kinds x r t op a e z in
+      let live = zero_live (model_of image).kinds x r t op z in
+      let is = zero-line (model_of image).kinds x r t op z in
       listed_name image l.name1.0
       (first_of (model_of image) (line_in l) (mine t l live q) (omega (arith, ap (λ (n : model.Line). n.op) q)))
 

@@ -1,23 +1,37 @@
 -- The number with which a move is refused, or 0, in the pieces that are decided one after the other. Assumes nothing.
-use Rattle.std.specs.Prelude.{◌≡◌, Bool, true, false, not, List, [], ℕ, ◌≤◌, ◌<◌, length}
+use Rattle.std.specs.Prelude.{◌≡◌, Result, Ok, Err, Bool, true, false, not, List, [], ℕ, ◌≤◌, ◌<◌}
 use Rattle.std.proofs.Math.Option.{none}
 use Rattle.definitions.specs.Bounded.{◌and◌, ◌is◌, ◌isnt◌, ◌below◌}
 use Rattle.definitions.specs.Limits.{slot_limit}
 use Rattle.definitions.specs.Model.{Box, kind_of_name, output, input}
 use Rattle.definitions.specs.Image.{name_count, model_of}
 use Rattle.definitions.specs.ReadModel.{read_model}
-use Rattle.definitions.specs.Record.{record_length, held_number, threads, sites, site, thread}
+use Rattle.definitions.specs.Record.{held_number, threads, sites, site, thread}
 use Rattle.definitions.specs.Moves.{Move, Outcome, made, need, site_with, found, at, types_share, value_in, thread_line, value1, at_line, inter_move}
 use Rattle.definitions.specs.Calls.{outcome_number}
+use Rattle.deciding.specs.declared.Blocked.{Blocked}
+use Rattle.deciding.specs.declared.Blocked.TheVariants.{Nobody, WithSelf, WrongLine, Channel, NoSite, Unfit, Private, Full, Spent}
+
+-- the paper's number of why a move is refused, and 0 for an answer that it is allowed
+abbrev pub blocked_number : Blocked → ℕ
+blocked_number Nobody = 12
+blocked_number WithSelf = 13
+blocked_number WrongLine = 14
+blocked_number Channel = 15
+blocked_number NoSite = 16
+blocked_number Unfit = 17
+blocked_number Private = 18
+blocked_number Full = 19
+blocked_number Spent = 20
+
+abbrev pub number_in : Result (Unit {0}) Blocked → ℕ
+number_in (Ok _) = 0
+number_in (Err n) = blocked_number n
 
 -- 0 where a test passes, and else a number
 abbrev pub unless : Bool → ℕ → ℕ
 unless true n = 0
 unless false n = n
-
--- the number a, or where it is 0 the next one
-unfoldable pub or_next : ℕ → ℕ → ℕ
-or_next a n = elim (a is 0) [ true ↦ n | false ↦ a ]
 
 -- all tests are passed: what the move would leave does not matter here
 abbrev pub passed : Outcome (List ℕ)
@@ -29,7 +43,7 @@ line_number kinds x r t op = outcome_number (at_line kinds x r t op passed)
 
 -- hide and unhide: the line, then 16 no such site
 unfoldable pub turn_number : List ℕ → Box → List ℕ → ℕ → ℕ → ℕ → ℕ
-turn_number kinds x r op before t = or_next (line_number kinds x r t op) (unless (found (site_with r (value1 kinds x r t) before)) 16)
+turn_number kinds x r op before t = outcome_number (at_line kinds x r t op (need (found (site_with r (value1 kinds x r t) before)) 16 passed))
 
 -- intra, once both threads are there and differ: 14 wrong line, 15 channels differ
 unfoldable pub channel_number : List ℕ → Box → List ℕ → ℕ → ℕ → ℕ
@@ -64,7 +78,6 @@ move_of kind b t c u = record { kind = kind; box = b; thread = t; box2 = c; thre
 -- what is asked of an end of an inter move: thread t of record r, whose line names p
 pub record EndReady (image r : List ℕ) (t p : ℕ) : Type 0 where
   pub read : read_model image ≡ none
-  pub long : length r ≡ record_length
   pub most : sites r ≤ slot_limit
   pub slot : t < slot_limit
   pub listed : p < name_count image

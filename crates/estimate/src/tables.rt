@@ -1,59 +1,67 @@
 // The blocks of an estimate, each a table of sets: refusals 2 to 5, and their first over the boxes.
 ghost use Rattle.std.specs.Prelude.{◌≡◌, ◌+◌, ◌*◌, ◌≤◌, min, length};
-ghost use Rattle.std.proofs.Math.Option.{some};
 ghost use Rattle.definitions.specs.Sets.{no_bit_past};
 ghost use Rattle.definitions.specs.Bounded.{first_below};
-ghost use Rattle.definitions.specs.Answer.{refusal};
 ghost use Rattle.definitions.specs.Words.{block_of, data_word};
 ghost use Rattle.definitions.specs.ReadEstimate.{sets_fit, is_set, table_fault};
 ghost use Rattle.refusals.specs.Answers.{answer_in};
 ghost use Rattle.estimate.specs.Blocks.{last_sets, words_fit, UnionOver, box_tables_fault};
 
-use refusals::{Answer, Refusal};
+use blocks::inside::BlockKind;
+use refusals::{Refusal, Rule, fault_if};
 
 // The words that the names have: one each, of words 0 to 59.
 fn name_words(names: usize) -> usize
     ensures { result ≡ min names 60 }
 {
-    if names < 60 { names } else { 60 }
+    names.min(60)
 }
 
 // Where the last sets begin: kind 5 has two, and other kinds none.
+#[tactic(auto, using(crate::proofs::Ranges::words))]
 fn last_sets(asked: usize) -> usize
     ensures { result ≡ last_sets asked }
 {
-    if asked == 5 { 60 } else { 62 }
+    if asked == BlockKind::Eps as usize {
+        60
+    } else {
+        62
+    }
 }
 
 // The union of the words of block k from one number up to another.
+#[tactic(auto, using(crate::proofs::Ranges::unions))]
 fn words_union(image: &[u8], k: usize, from: usize, to: usize) -> u64
-    requires { (512 * (k + 1) ≤ length image.now) × (to ≤ 62) }
+    requires there { 512 * (k + 1) ≤ length image.now }
+    requires few { to ≤ 62 }
     ensures { UnionOver (data_word (block_of image.now k)) from to result }
 {
     let mut w: u64 = 0;
-    let mut i = from;
-    while i < to {
+    for i in from..to {
         w = sets::union(w, blocks::inside::data_word(image, k, i));
-        i += 1;
     }
     w
 }
 
+#[tactic(auto, using(crate::proofs::Ranges::words))]
 fn no_bit_past(names: usize, w: u64) -> bool
     ensures { result ≡ no_bit_past names w }
 {
-    if names < 64 { w >> names == 0 } else { true }
+    64 <= names || w >> names == 0
 }
 
 // The words of block k from one number up to another have no bit past n: tested once, on their union.
+#[tactic(auto, using(crate::proofs::Ranges::unions))]
 fn words_fit(image: &[u8], k: usize, from: usize, to: usize, n: usize) -> bool
-    requires { (512 * (k + 1) ≤ length image.now) × (to ≤ 62) }
+    requires there { 512 * (k + 1) ≤ length image.now }
+    requires few { to ≤ 62 }
     ensures { result ≡ words_fit n from to (data_word (block_of image.now k)) }
 {
     no_bit_past(n, words_union(image, k, from, to))
 }
 
 // The names' sets, the words between, which are zero, and the last sets.
+#[tactic(auto, using(crate::proofs::Ranges::words))]
 fn sets_fit(image: &[u8], names: usize, k: usize, asked: usize) -> bool
     requires { 512 * (k + 1) ≤ length image.now }
     ensures { result ≡ sets_fit names (is_set names asked) (block_of image.now k) }
@@ -65,60 +73,47 @@ fn sets_fit(image: &[u8], names: usize, k: usize, asked: usize) -> bool
         & words_fit(image, k, last, 62, names)
 }
 
-pub fn refused(number: u8, k: usize) -> Answer
-    ensures { answer_in result ≡ some (refusal number k 0) }
-{
-    Answer::Refused(Refusal {
-        number,
-        place: k,
-        second: 0,
-    })
-}
-
 // Block k, where the order asks for a kind and a box.
-pub fn table(image: &[u8], names: usize, k: usize, asked: usize, place: usize) -> Answer
+#[tactic(auto, using(crate::proofs::Laws::tables))]
+pub fn table(
+    image: &[u8],
+    names: usize,
+    k: usize,
+    asked: usize,
+    place: usize,
+) -> Result<(), Refusal>
     requires { 512 * (k + 1) ≤ length image.now }
     ensures { answer_in result ≡ table_fault image.now names k asked place }
 {
-    if !blocks::inside::check_matches(image, k) {
-        return refused(2, k);
-    }
+    fault_if(!blocks::inside::check_matches(image, k), Rule::Check, k, 0)?;
     let h = blocks::inside::heading_of(image, k);
-    if !blocks::inside::heading_matches(h, k, asked, place) {
-        return refused(3, k);
-    }
-    if h.count != 0 {
-        return refused(4, k);
-    }
-    if !sets_fit(image, names, k, asked) {
-        return refused(5, k);
-    }
-    Answer::NoRefusal
+    fault_if(
+        !blocks::inside::heading_matches(h, k, asked, place),
+        Rule::Heading,
+        k,
+        0,
+    )?;
+    fault_if(h.count != 0, Rule::Count, k, 0)?;
+    fault_if(!sets_fit(image, names, k, asked), Rule::Stray, k, 0)
 }
 
 // Box b's two blocks.
-fn box_tables(image: &[u8], names: usize, b: usize) -> Answer
+#[tactic(auto, using(refusals::proofs::Answers::answers), unfolding(crate::specs::Blocks::box_tables_fault, definitions::specs::Estimate::eps_block, definitions::specs::Estimate::kap_block))]
+fn box_tables(image: &[u8], names: usize, b: usize) -> Result<(), Refusal>
     requires { 512 * (3 + 2 * b) ≤ length image.now }
     ensures { answer_in result ≡ box_tables_fault image.now names b }
 {
-    let f = table(image, names, 1 + 2 * b, 5, b);
-    if let Answer::Refused(_) = f {
-        return f;
-    }
-    table(image, names, 2 + 2 * b, 6, b)
+    table(image, names, 1 + 2 * b, BlockKind::Eps as usize, b)?;
+    table(image, names, 2 + 2 * b, BlockKind::Kap as usize, b)
 }
 
-pub fn each_box(image: &[u8], names: usize, boxes: usize) -> Answer
+#[tactic(auto, using(refusals::proofs::Answers::answers))]
+pub fn each_box(image: &[u8], names: usize, boxes: usize) -> Result<(), Refusal>
     requires { 512 * (1 + 2 * boxes) ≤ length image.now }
     ensures { answer_in result ≡ first_below boxes (box_tables_fault image.now names) }
 {
-    let mut b = 0;
-    while b < boxes {
-        let f = box_tables(image, names, b);
-        if let Answer::Refused(_) = f {
-            return f;
-        }
-        b += 1;
+    for b in 0..boxes {
+        box_tables(image, names, b)?;
     }
-    Answer::NoRefusal
+    Ok(())
 }

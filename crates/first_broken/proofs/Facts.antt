@@ -74,10 +74,6 @@ module _ (model estimate : List ℕ) (u : Unrefused model estimate) where
   pub box_8 : (l : Layout) (b : ℕ) → LayoutOf model l → b < l.boxes → b < 8
   box_8 l b h i = omega (arith, boxes_8, h.frame.boxes)
 
-  -- names
-  pub name_60 : (n : ℕ) → n < name_count model → n < 60
-  name_60 n h = omega (arith, names_60)
-
   pub count_60 : (l : Layout) → LayoutOf model l → l.names ≤ 60
   count_60 l h = omega (arith, names_60, h.frame.names)
 

@@ -1,26 +1,24 @@
 -- Laws of the checker's steps: one site and one line after another, and one box after another. Assumes nothing.
-use mathlib.Core.Path.{◌≡◌, sym, ap, subst, ◌∙◌}
+use mathlib.Core.Path.{◌≡◌, sym, ap, ap₂, subst, ◌∙◌}
 use mathlib.Core.Bool.{Bool, true}
 use mathlib.Core.List.{List}
-use mathlib.Core.Option.{Option, none}
+use mathlib.Core.Option.{Option, none, some}
 use Prim.Native.Nat.{ℕ, ◌+◌, ◌/◌, ◌%◌, ◌≤◌, ◌<◌}
 use native.Mathlib.Omega.{arith}
 use borrow.Author.Rules.{rules}
-use mir.Syntax.{w64}
-use mir.Val.{Fits}
 use lib.ListN.{length, get_or}
 use Rattle.definitions.specs.Bounded.{◌and◌, ◌is◌, ◌below◌, when, or_else, first_below}
 use Rattle.definitions.specs.Sets.{has}
 use Rattle.definitions.specs.Words.{block_of, count_of}
 use Rattle.definitions.specs.Model as paper
-use Rattle.definitions.specs.Image.{site_record, line_record, name_count, boxes_of, kinds_of, sites_block, lines_of, model_of}
+use Rattle.definitions.specs.Image.{site_record, line_record, boxes_of, kinds_of, sites_block, lines_of, model_of}
 use Rattle.definitions.specs.Estimate.{Estimate, estimate_of}
 use Rattle.definitions.specs.Clauses as cl
-use Rattle.definitions.proofs.Bounded.{is_iff, below_iff, true_of, of_true, each_none}
+use Rattle.definitions.proofs.Bounded.{is_iff, of_true, each_none}
 use Rattle.definitions.proofs.Faults.{when_iff}
 use Rattle.definitions.proofs.Clauses.{at_iff}
 use Rattle.definitions.proofs.Image.{model_count, model_box, model_kinds, model_names, box_sites, box_lines}
-use Rattle.definitions.proofs.Loops.{passed_start, passed-turn, passed_end, else_go}
+use Rattle.definitions.proofs.Loops.{passed-turn, passed_end}
 use Rattle.records.specs.declared.Site.{Site}
 use Rattle.records.specs.declared.Line.{Line}
 use Rattle.layouts.specs.declared.Layout.{Layout}
@@ -28,14 +26,8 @@ use Rattle.records.specs.Records.{site_in, line_in}
 use Rattle.layouts.specs.LayoutOf.{LayoutOf}
 use Rattle.records.specs.Places.{line_record_at}
 use Rattle.sharing.proofs.Gather.{nothing_of}
-use Rattle.line_gather.specs.Gathered.{LinesOfNames}
 use Rattle.clause_walk.specs.Lines.{LinePasses, ShowsLines}
-use Rattle.record_clauses.specs.declared.Broken.{Broken}
-use Rattle.record_clauses.specs.declared.Found.{Found}
-use Rattle.record_clauses.specs.declared.Found.TheVariants.{Nothing, First}
-use Rattle.record_clauses.specs.Found.{found_in}
 use Rattle.record_clauses.specs.Known.{NamesFound, LineFound}
-use Rattle.record_clauses.proofs.Steps.{nothing, first_else, first_of}
 use Rattle.first_broken.specs.Known.{Unrefused}
 use Rattle.first_broken.proofs.Facts.{box_8, count_60, kind_names, estimate_512, names_boxes, box_names, eps_there, site-there, site-at, site_31, site_62, line-at, line-there, line_names, lines_named}
 
@@ -54,10 +46,6 @@ pub line-is : (model estimate : List ℕ) (boxes k b i : ℕ) (l : Line) (r : Op
     → LineFound (estimate_of estimate) boxes b i (line_in l) r → r ≡ cl.line_broken (model_of model) (estimate_of estimate) b i
 line-is model estimate boxes k b i l r u eb inside at h el q =
     q.same (model_of model) (line-at model estimate u b (rw eb at inside) k at i h ∙ sym el) (model_count model ∙ sym eb)
-
--- the number of the next line
-pub next_fits : (model : List ℕ) (k n j : ℕ) → LinesOfNames model k n → j < n → Fits w64 (j + 1)
-next_fits model k n j f h = omega (arith, f.there.few)
 
 -- ---- no line of a box breaks a clause
 
@@ -81,11 +69,11 @@ passes_none m e b i l at p =
 
 pub shown_none : (model estimate : List ℕ) (boxes k b n : ℕ) (r : Bool) → Unrefused model estimate → boxes ≡ boxes_of model → b < boxes → k ≡ sites_block model b
     → n ≡ lines_of model b → ShowsLines model (estimate_of estimate) boxes b k n r → r ≡ true
-    → none ≡ first_below (lines_of model b) (cl.line_broken (model_of model) (estimate_of estimate) b)
+    → none ≡ first_below n (cl.line_broken (model_of model) (estimate_of estimate) b)
 shown_none model estimate boxes k b n r u eb inside at en s t =
-    sym (each_none (cl.line_broken (model_of model) (estimate_of estimate) b) (lines_of model b) (λ i h.
-    passes_none (model_of model) (estimate_of estimate) b i (line_record_at model k i) (line-at model estimate u b (rw eb at inside) k at i h)
-    (subst (λ (x : ℕ). LinePasses (estimate_of estimate) x b (line_record_at model k i)) (eb ∙ sym (model_count model)) (s.shows (of_true t) i (rw en h)))))
+    sym (each_none (cl.line_broken (model_of model) (estimate_of estimate) b) n (λ i h.
+    passes_none (model_of model) (estimate_of estimate) b i (line_record_at model k i) (line-at model estimate u b (rw eb at inside) k at i (rw en at h))
+    (subst (λ (x : ℕ). LinePasses (estimate_of estimate) x b (line_record_at model k i)) (eb ∙ sym (model_count model)) (s.shows (of_true t) i h))))
 
 -- a box is inside, by a count that is the same
 pub inside_of : (n b count : ℕ) → count ≡ n → b < count → b < n
@@ -93,80 +81,70 @@ inside_of n b count e h = rw e at h
 
 -- ---- a box: its sites, then its lines
 
-module _ (model : List ℕ) (l : Layout) (h : LayoutOf model l) (b : ℕ) (inside : b < l.boxes) where
-  in_image : b < boxes_of model
-  in_image = rw h.frame.boxes at inside
+module _ (model : List ℕ) (l : Layout) (h : LayoutOf model l) where
+  pub layout_boxes : l.boxes ≡ boxes_of model
+  layout_boxes = h.frame.boxes
 
-  pub layout_at : get_or l.at b 0 ≡ sites_block model b
-  layout_at = h.frame.at b in_image
+  module _ (b : ℕ) (inside : b < l.boxes) where
+    pub in_image : b < boxes_of model
+    in_image = rw h.frame.boxes at inside
 
-  pub layout_sites : get_or l.sites b 0 ≡ count_of (block_of model (get_or l.at b 0))
-  layout_sites = h.frame.sites b in_image ∙ ap (λ (k : ℕ). count_of (block_of model k)) (sym layout_at)
+    pub layout_at : get_or l.at b 0 ≡ sites_block model b
+    layout_at = h.frame.at b in_image
 
-  pub layout_lines : get_or l.lines b 0 ≡ lines_of model b
-  layout_lines = h.frame.lines b in_image
+    pub layout_sites : get_or l.sites b 0 ≡ count_of (block_of model (get_or l.at b 0))
+    layout_sites = h.frame.sites b in_image ∙ ap (λ (k : ℕ). count_of (block_of model k)) (sym layout_at)
 
-  pub layout_walked : (r : Option cl.Broken) (g : ℕ → Option cl.Broken) → r ≡ first_below (get_or l.lines b 0) g → r ≡ first_below (lines_of model b) g
-  layout_walked r g e = e ∙ ap (λ (n : ℕ). first_below n g) layout_lines
+    pub layout_lines : get_or l.lines b 0 ≡ lines_of model b
+    layout_lines = h.frame.lines b in_image
 
-  module _ (e : Estimate) (f : Found) (ef : found_in f ≡ first_below (get_or l.sites b 0) (cl.site_broken (model_of model) e b)) where
-    sites-first : found_in f ≡ first_below (paper.site_count (paper.box_at (model_of model) b)) (cl.site_broken (model_of model) e b)
-    sites-first =
-        ef
-        ∙ ap (λ (n : ℕ). first_below n (cl.site_broken (model_of model) e b))
-        (h.frame.sites b in_image ∙ sym (ap paper.site_count (model_box model b in_image) ∙ box_sites model b))
+    module _ (e : Estimate) where
+      box_is : cl.box_broken (model_of model) e b
+          ≡ or_else (first_below (get_or l.sites b 0) (cl.site_broken (model_of model) e b)) (first_below (get_or l.lines b 0) (cl.line_broken (model_of model) e b))
+      unfolding cl.box_broken
+      box_is =
+          ap₂ (λ (m n : ℕ). or_else (first_below m (cl.site_broken (model_of model) e b)) (first_below n (cl.line_broken (model_of model) e b)))
+          (ap paper.site_count (model_box model b in_image) ∙ box_sites model b ∙ sym (h.frame.sites b in_image))
+          (ap paper.line_count (model_box model b in_image) ∙ box_lines model b ∙ sym layout_lines)
 
-    pub box_stop : (x : Broken) → f ≡ First x → found_in f ≡ cl.box_broken (model_of model) e b
-    unfolding cl.box_broken
-    box_stop x q =
-        first_else f (first_below (paper.site_count (paper.box_at (model_of model) b)) (cl.site_broken (model_of model) e b))
-        (first_below (paper.line_count (paper.box_at (model_of model) b)) (cl.line_broken (model_of model) e b)) x sites-first q
+      pub box_stop : (x : cl.Broken) → some x ≡ first_below (get_or l.sites b 0) (cl.site_broken (model_of model) e b) → some x ≡ cl.box_broken (model_of model) e b
+      box_stop x q =
+          ap (λ (o : Option cl.Broken). or_else o (first_below (get_or l.lines b 0) (cl.line_broken (model_of model) e b))) q ∙ sym box_is
 
-    pub box_go : (r : Option cl.Broken) → f ≡ Nothing → r ≡ first_below (lines_of model b) (cl.line_broken (model_of model) e b)
-        → r ≡ cl.box_broken (model_of model) e b
-    unfolding cl.box_broken
-    box_go r q g =
-        else_go (first_below (paper.site_count (paper.box_at (model_of model) b)) (cl.site_broken (model_of model) e b))
-        (first_below (paper.line_count (paper.box_at (model_of model) b)) (cl.line_broken (model_of model) e b)) r
-        (nothing f (first_below (paper.site_count (paper.box_at (model_of model) b)) (cl.site_broken (model_of model) e b)) sites-first q)
-        (g
-        ∙ ap (λ (n : ℕ). first_below n (cl.line_broken (model_of model) e b))
-        (sym (ap paper.line_count (model_box model b in_image) ∙ box_lines model b)))
+      pub box_go : (r : Option cl.Broken) → none ≡ first_below (get_or l.sites b 0) (cl.site_broken (model_of model) e b)
+          → r ≡ first_below (get_or l.lines b 0) (cl.line_broken (model_of model) e b) → r ≡ cl.box_broken (model_of model) e b
+      box_go r q k =
+          k ∙ ap (λ (o : Option cl.Broken). or_else o (first_below (get_or l.lines b 0) (cl.line_broken (model_of model) e b))) q ∙ sym box_is
 
 -- ---- names, then boxes
 
-module _ (model : List ℕ) (l : Layout) (h : LayoutOf model l) (e : Estimate) (f : Found) (few : l.names ≤ 60) (ef : NamesFound e l.free (found_in f)) where
+module _ (model : List ℕ) (l : Layout) (h : LayoutOf model l) (e : Estimate) (few : l.names ≤ 60) (f : Option cl.Broken) (ef : NamesFound e l.free f) where
   free_in : (n : ℕ) → n < 64 → has l.free n ≡ paper.is_free (model_of model).kinds n
   free_in n k =
       h.frame.free n k ∙ ap (λ (c : ℕ). n below c and paper.kind_of_name (kinds_of model) n is 0) (sym (model_names model))
       ∙ ap (λ (x : List ℕ). paper.is_free x n) (sym (model_kinds model))
 
-  names_first : found_in f ≡ first_below (length (model_of model).kinds) (cl.name_broken (model_of model) e)
-  names_first =
-      ef.same (model_of model) (omega (arith, few, h.frame.names, ap length (model_kinds model) ∙ model_names model)) free_in
-
-  pub all_stop : (x : Broken) → f ≡ First x → found_in f ≡ cl.first_broken (model_of model) e
+  all_is : cl.first_broken (model_of model) e ≡ or_else f (first_below l.boxes (cl.box_broken (model_of model) e))
   unfolding cl.first_broken
-  all_stop x q =
-      first_else f (first_below (length (model_of model).kinds) (cl.name_broken (model_of model) e))
-      (first_below (paper.box_count (model_of model)) (cl.box_broken (model_of model) e)) x names_first q
+  all_is =
+      sym (ap₂ (λ (o : Option cl.Broken) (n : ℕ). or_else o (first_below n (cl.box_broken (model_of model) e)))
+      (ef.same (model_of model) (omega (arith, few, h.frame.names, ap length (model_kinds model) ∙ model_names model)) free_in)
+      (h.frame.boxes ∙ sym (model_count model)))
 
-  pub all_go : (r : Option cl.Broken) → f ≡ Nothing → r ≡ first_below l.boxes (cl.box_broken (model_of model) e) → r ≡ cl.first_broken (model_of model) e
-  unfolding cl.first_broken
-  all_go r q g =
-      else_go (first_below (length (model_of model).kinds) (cl.name_broken (model_of model) e))
-      (first_below (paper.box_count (model_of model)) (cl.box_broken (model_of model) e)) r
-      (nothing f (first_below (length (model_of model).kinds) (cl.name_broken (model_of model) e)) names_first q)
-      (g ∙ ap (λ (n : ℕ). first_below n (cl.box_broken (model_of model) e)) (h.frame.boxes ∙ sym (model_count model)))
+pub all_stop : (model : List ℕ) (l : Layout) (e : Estimate) (x : cl.Broken) → LayoutOf model l → l.names ≤ 60 → NamesFound e l.free (some x)
+    → some x ≡ cl.first_broken (model_of model) e
+all_stop model l e x h few f = sym (all_is model l h e few (some x) f)
 
-pub ruleset sites-2 = (rules, eps_there, site-there, site_31, site_62, site-is)
+pub all_go : (model : List ℕ) (l : Layout) (e : Estimate) (r : Option cl.Broken) → LayoutOf model l → l.names ≤ 60 → NamesFound e l.free none
+    → r ≡ first_below l.boxes (cl.box_broken (model_of model) e) → r ≡ cl.first_broken (model_of model) e
+all_go model l e r h few f q = q ∙ sym (all_is model l h e few none f)
 
-pub ruleset lines-9 = (rules, passed_start, passed-turn, passed_end, nothing, first_of, inside_of, names_boxes, box_names, line-there, line_names, nothing_of, line-is)
+pub ruleset sites = (rules, eps_there, site-there, site_31, site_62, site-is)
 
-pub ruleset firsts = (rules, passed_start, passed-turn, passed_end, nothing, first_of)
+pub ruleset firsts = (rules, passed-turn, passed_end)
 
-pub ruleset boxes = (rules, box_8, passed_start, passed-turn, passed_end, nothing, first_of, layout_at, layout_sites, inside_of, box_stop, box_go)
+pub ruleset walks = (rules, passed-turn, passed_end, inside_of, box_names, line-there, line_names, lines_named, nothing_of, shown_none)
 
-pub ruleset walks = (rules, layout_lines, layout_walked, inside_of, names_boxes, lines_named, shown_none)
+pub ruleset boxes = (rules, box_8, layout_boxes, in_image, layout_at, layout_sites, layout_lines, box_go)
 
-pub ruleset finds = (rules, count_60, kind_names, estimate_512, names_boxes, all_stop, all_go)
+pub ruleset finds = (rules, count_60, kind_names, estimate_512, layout_boxes, names_boxes, all_go)

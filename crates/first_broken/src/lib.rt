@@ -9,20 +9,19 @@ ghost use Rattle.record_clauses.specs.Found.{found_in};
 ghost use Rattle.first_broken.specs.Known.{Unrefused};
 
 use layouts::Layout;
-use record_clauses::Found;
+use record_clauses::Broken;
+use sharing::Tables;
 
 mod boxes;
 
 // Clause 1 by name; then box by box.
-pub fn find(model: &[u8], estimate: &[u8], layout: Layout) -> Found
-    requires { Unrefused model.now estimate.now × LayoutOf model.now layout }
+#[tactic(auto, using(crate::proofs::Steps::finds))]
+pub fn find(model: &[u8], estimate: &[u8], layout: Layout) -> Result<(), Broken>
+    requires unrefused { Unrefused model.now estimate.now }
+    requires of_model { LayoutOf model.now layout }
     ensures { found_in result ≡ first_broken (model_of model.now) (estimate_of estimate.now) }
 {
-    let f = record_clauses::names::names(estimate, layout.free);
-    if let Found::First(_) = f {
-        return f;
-    }
-    let sends = sharing::sends(estimate, layout.boxes);
-    let types = links::all_types(estimate, layout.boxes);
-    boxes::boxes(model, estimate, &sends, &types, layout, layout.boxes)
+    record_clauses::names::names(estimate, layout.free)?;
+    let t = Tables::new(estimate, layout.boxes);
+    boxes::boxes(model, &t, layout)
 }

@@ -1,5 +1,5 @@
 -- Laws of the limits of held names: a held name lies within the limits of its number exactly when it is in order. Assumes nothing.
-use Rattle.std.proofs.Common.{◌≡◌, ℕ, ◌+◌, ◌-◌, ◌*◌, ◌%◌, ◌^◌, ◌<◌, ◌≤◌, Bool, true, false, ◌&&◌, T, leb, ◌≢◌, ◌↔◌, List, length, get_or, set, replicate, sym, refl, ap, ◌∙◌, subst, ap₂, zero-le, arith, length-set, get_or-set_other, get_or-set_same, w64, Fits, rules}
+use Rattle.std.proofs.Common.{◌≡◌, ℕ, ◌+◌, ◌-◌, ◌%◌, ◌^◌, ◌<◌, ◌≤◌, Bool, true, false, ◌&&◌, T, leb, ◌≢◌, ◌↔◌, List, length, get_or, set, replicate, sym, refl, ap, ◌∙◌, subst, ap₂, arith, length-set, get_or-set_other, get_or-set_same}
 use mathlib.Core.Option.{Option, none, some}
 use native.Mathlib.Decide.{ℕ_discrete, dec_lt}
 use lib.ListN.{length-replicate, get_or-replicate}
@@ -11,42 +11,35 @@ use Rattle.definitions.specs.Record.{held, held_number, held_stamp, stamp_limit,
 use Rattle.definitions.specs.StateRules.{held_fits}
 use Rattle.definitions.proofs.Bounded.{and_is, and_iff, is_iff, below_iff, upto_iff, all_iff, true_of, of_true, false_of, same_test, first_found, fault_some}
 use Rattle.definitions.proofs.Loops.{joining_start, joining_turn, joining_end}
-use Rattle.definitions.proofs.Slots.{slot_length}
 use Rattle.definitions.proofs.Image.{model_kinds, model_names}
 use Rattle.definitions.proofs.StateRules.{number_low, HeldFits, held_iff}
-use Rattle.layouts.specs.declared.Owner.{Owner}
-use Rattle.layouts.specs.declared.Owner.TheVariants.{Nobody, Of}
 use Rattle.layouts.specs.declared.Layout.{Layout}
 use Rattle.layouts.specs.LayoutOf.{OfKind, LayoutOf}
-use Rattle.layouts.specs.Owners.{owner_in, first_binder}
+use Rattle.layouts.specs.Owners.{first_binder}
 use Rattle.layouts.proofs.OwnerLaws.{binder_owner}
+use Rattle.held_limits.specs.declared.Limits.{Limits}
 use Rattle.held_limits.specs.Limits.{entry_of, in_limits, least_held, largest_made, largest_held, last_fits, StampsFit, LimitsFor}
 
 -- ---- one held name
 
-pub entry_is : (v d : ℕ) → v < 2 ^ 32 → d < 2 ^ 32 → (d + 1) % 2 ^ 32 ≡ v → d % 64 ≡ entry_of v
+pub entry_is : (v : ℕ) → v < 2 ^ 32 → (v + 4294967295) % 4294967296 % 64 ≡ entry_of v
 unfolding entry_of
-entry_is v d h k e = omega arith
+entry_is v h = omega arith
 
 module _ (v n : ℕ) (e : n ≡ entry_of v) where
   pub entry_below : n < 64
   unfolding entry_of
   entry_below = omega arith
 
-  pub entry_scale : Fits w64 (n * 4)
-  unfolding entry_of
-  entry_scale = omega arith
-
-  pub in_limits_lem : (low high : List ℕ) → (leb (get_or low n 0) v && leb v (get_or high n 0)) ≡ in_limits low high v
+  pub in_limits_lem : (limits : Limits) → (leb (get_or limits.low n 0) v && leb v (get_or limits.high n 0)) ≡ in_limits limits v
   unfolding in_limits ◌upto◌
-  in_limits_lem low high = and_is (leb (get_or low n 0) v) (leb v (get_or high n 0)) ∙ ap (λ (i : ℕ). get_or low i 0 upto v and v upto get_or high i 0) e
+  in_limits_lem limits =
+      and_is (leb (get_or limits.low n 0) v) (leb v (get_or limits.high n 0))
+      ∙ ap (λ (i : ℕ). get_or limits.low i 0 upto v and v upto get_or limits.high i 0) e
 
 -- ---- the last stamp of a box
 
 module _ (st r : List ℕ) (b : ℕ) (e : r ≡ record_of st b) where
-  pub record_long : length st ≡ 9112 → b < 8 → length r ≡ 1139
-  record_long l h = ap length e ∙ slot_length 0 1139 8 st (omega arith) b h
-
   pub last-is : (w : ℕ) → w ≡ stamp r → w ≡ last_stamps st b
   unfolding last_stamps
   last-is w q = q ∙ ap stamp e
@@ -67,14 +60,11 @@ module _ (free n : ℕ) (b : Bool) (e : b ≡ has free n) where
   least_made w t z = z ∙ ap (λ (c : Bool). elim c as (λ _. ℕ) [ true ↦ held n 0 | false ↦ held n 1 ]) (sym t ∙ e)
 
 -- the box that binds a name is one of the boxes, so its last stamp is at most the limit
-module _ (bound : List ℕ) (boxes n b : ℕ) (o : Owner) (e : owner_in o ≡ first_binder bound boxes n) (q : o ≡ Of b) where
-  found : first_binder bound boxes n ≡ some b
-  found = sym e ∙ ap owner_in q
-
+module _ (bound : List ℕ) (boxes n b : ℕ) (found : some b ≡ first_binder bound boxes n) where
   binder_inside : b < boxes
-  unfolding first_binder found
+  unfolding first_binder
   binder_inside =
-      let x = first_found (λ c. some_if (has (get_or bound c 0) n) c) boxes b found in
+      let x = first_found (λ c. some_if (has (get_or bound c 0) n) c) boxes b (sym found) in
       let z = (fault_some (has (get_or bound x.0 0) n) x.0 b x.2).1 in
       omega (arith, x.1)
 
@@ -89,12 +79,11 @@ module _ (bound : List ℕ) (boxes n b : ℕ) (o : Owner) (e : owner_in o ≡ fi
   pub largest_some : (last : ℕ → ℕ) (v w : ℕ) → v ≡ held n w → w ≡ last b → v ≡ largest_made bound boxes last n
   unfolding largest_made
   largest_some last v w y z =
-      y ∙ ap (held n) z ∙ ap (λ (x : Option ℕ). elim x as (λ _. ℕ) [ none ↦ 0 | some c ↦ held n (last c) ]) (sym found)
+      y ∙ ap (held n) z ∙ ap (λ (x : Option ℕ). elim x as (λ _. ℕ) [ none ↦ 0 | some c ↦ held n (last c) ]) found
 
-pub largest_none : (bound : List ℕ) (boxes n : ℕ) (o : Owner) → owner_in o ≡ first_binder bound boxes n → o ≡ Nobody → (last : ℕ → ℕ) → 0 ≡ largest_made bound boxes last n
+pub largest_none : (bound : List ℕ) (boxes n : ℕ) → none ≡ first_binder bound boxes n → (last : ℕ → ℕ) → 0 ≡ largest_made bound boxes last n
 unfolding largest_made
-largest_none bound boxes n o e q last =
-    ap (λ (x : Option ℕ). elim x as (λ _. ℕ) [ none ↦ 0 | some c ↦ held n (last c) ]) (sym (ap owner_in q) ∙ e)
+largest_none bound boxes n found last = ap (λ (x : Option ℕ). elim x as (λ _. ℕ) [ none ↦ 0 | some c ↦ held n (last c) ]) found
 
 module _ (l : Layout) (last : ℕ → ℕ) (n : ℕ) (b : Bool) (e : b ≡ has l.free n) where
   pub largest_free : (w : ℕ) → b ≡ true → w ≡ held n 0 → w ≡ largest_held l last n
@@ -146,39 +135,28 @@ filled-turn f d n xs v p h e = record {
     pick i l (yes z) = subst (λ (j : ℕ). get_or (set xs n v) j 0 ≡ f j) z (get_or-set_same xs n v 0 (omega (arith, p.long)) ∙ e)
     pick i l (no z) = get_or-set_other xs n i v 0 (λ q. z (sym q)) ∙ p.given i (omega arith)
 
-pub record LimitsRun (l : Layout) (st : List ℕ) (names n : ℕ) (low high : List ℕ) : Type 0 where
-  pub all : names ≡ l.names
-  pub few : names ≤ 60
-  pub so_far : n ≤ names
+-- the entries of the numbers below n are given
+pub record LimitsRun (l : Layout) (st : List ℕ) (n : ℕ) (low high : List ℕ) : Type 0 where
+  pub few : l.names ≤ 60
   pub lows : Filled (least_held l.free) 1 n low
   pub highs : Filled (largest_held l (last_stamps st)) 0 n high
 
 module _ (l : Layout) (st : List ℕ) where
-  pub limits_start : l.names ≤ 60 → LimitsRun l st l.names 0 (replicate 64 1) (replicate 64 0)
+  pub limits_start : l.names ≤ 60 → LimitsRun l st 0 (replicate 64 1) (replicate 64 0)
   limits_start h = record {
-    all = refl;
     few = h;
-    so_far = zero-le;
     lows = filled-start (least_held l.free) 1;
     highs = filled-start (largest_held l (last_stamps st)) 0;
   }
 
-  module _ (names n : ℕ) (low high : List ℕ) (p : LimitsRun l st names n low high) where
-    pub limits_turn : (v w m k : ℕ) → n < names → m ≡ n → k ≡ n → v ≡ least_held l.free m → w ≡ largest_held l (last_stamps st) k
-        → LimitsRun l st names (n + 1) (set low n v) (set high n w)
-    limits_turn v w m k h a b e q = record {
-      all = p.all;
+  module _ (n : ℕ) (low high : List ℕ) (p : LimitsRun l st n low high) where
+    pub limits_turn : (v w : ℕ) → n < l.names → v ≡ least_held l.free n → w ≡ largest_held l (last_stamps st) n
+        → LimitsRun l st (n + 1) (set low n v) (set high n w)
+    limits_turn v w h e q = record {
       few = p.few;
-      so_far = omega arith;
-      lows = filled-turn (least_held l.free) 1 n low v p.lows (omega (arith, p.few)) (e ∙ ap (least_held l.free) a);
-      highs = filled-turn (largest_held l (last_stamps st)) 0 n high w p.highs (omega (arith, p.few)) (q ∙ ap (largest_held l (last_stamps st)) b);
+      lows = filled-turn (least_held l.free) 1 n low v p.lows (omega (arith, p.few)) e;
+      highs = filled-turn (largest_held l (last_stamps st)) 0 n high w p.highs (omega (arith, p.few)) q;
     }
-
-    pub low_room : n < names → n < length low
-    low_room h = omega (arith, p.few, p.lows.long)
-
-    pub high_room : n < names → n < length high
-    high_room h = omega (arith, p.few, p.highs.long)
 
 -- ---- the limits are those of the held names in order
 
@@ -258,52 +236,49 @@ module _ (image : List ℕ) (l : Layout) (last : ℕ → ℕ) (lay : LayoutOf im
           let high = high_made image l last lay few name inside (some x.0) x.1 f h.not_received in
           (omega (arith, low_made image l last lay few name inside f, x.2), omega (arith, x.3))
 
-module _ (l : Layout) (st : List ℕ) (names n : ℕ) (low high : List ℕ) (p : LimitsRun l st names n low high) (done : names ≤ n) where
+module _ (l : Layout) (st : List ℕ) (n : ℕ) (limits : Limits) (p : LimitsRun l st n limits.low limits.high) (so_far : n ≤ l.names) (done : l.names ≤ n) where
   module _ (image : List ℕ) (lay : LayoutOf image l) where
     last : ℕ → ℕ
     last = last_stamps st
 
-    few_names : l.names ≤ 60
-    few_names = omega (arith, p.few, p.all)
-
     -- none is in no limits, and not in order
-    none_out : (v : ℕ) → v ≡ 0 → T (in_limits low high v) → ⊥
+    none_out : (v : ℕ) → v ≡ 0 → T (in_limits limits v) → ⊥
     unfolding in_limits entry_of
     none_out v e t =
-        let a = (upto_iff (get_or low (entry_of v) 0) v).0 ((and_iff (get_or low (entry_of v) 0 upto v) (v upto get_or high (entry_of v) 0)).0 t).0 in
-        omega (arith, p.few, p.lows.rest (entry_of v) (omega (arith, p.few, p.so_far)) (omega arith))
+        let a = (upto_iff (get_or limits.low (entry_of v) 0) v).0 ((and_iff (get_or limits.low (entry_of v) 0 upto v) (v upto get_or limits.high (entry_of v) 0)).0 t).0 in
+        omega (arith, p.few, p.lows.rest (entry_of v) (omega (arith, p.few)) (omega arith))
 
-    limit_at : (v : ℕ) → v ≢ 0 → T (in_limits low high v) ↔ ((get_or low (held_number v) 0 ≤ v) × (v ≤ get_or high (held_number v) 0))
+    limit_at : (v : ℕ) → v ≢ 0 → T (in_limits limits v) ↔ ((get_or limits.low (held_number v) 0 ≤ v) × (v ≤ get_or limits.high (held_number v) 0))
     unfolding in_limits entry_of held_number
     limit_at v f =
         let e : (v + 63) % 64 ≡ (v - 1) % 64 = omega arith in
         rw e (λ t. simp (and_iff, upto_iff) at t, λ t. simp (and_iff, upto_iff) t)
 
-    inside_limits : (v : ℕ) → v ≢ 0 → Dec (held_number v < l.names) → T (in_limits low high v) ↔ HeldFits (model_of image) last v
+    inside_limits : (v : ℕ) → v ≢ 0 → Dec (held_number v < l.names) → T (in_limits limits v) ↔ HeldFits (model_of image) last v
     unfolding last
     inside_limits v f (yes h) =
-        let q : held_number v < n = omega (arith, p.all) in
+        let q : held_number v < n = omega arith in
         let a = p.lows.given (held_number v) q in
         let b = p.highs.given (held_number v) q in (
-          λ t. let x = (limit_at v f).0 t in between_fits image l last lay few_names v f h (omega arith) (omega arith),
-          λ k. let x = fits_between image l last lay few_names v f h k in (limit_at v f).1 (omega arith, omega arith),
+          λ t. let x = (limit_at v f).0 t in between_fits image l last lay p.few v f h (omega arith) (omega arith),
+          λ k. let x = fits_between image l last lay p.few v f h k in (limit_at v f).1 (omega arith, omega arith),
         )
     inside_limits v f (no h) =
         let small : held_number v < 64 = number_low v in
-        let b = p.highs.rest (held_number v) (omega (arith, p.all, p.so_far)) small in (
+        let b = p.highs.rest (held_number v) (omega arith) small in (
           λ t. absurd (let x = (limit_at v f).0 t in omega arith),
           λ k. absurd (omega (arith, k.listed, lay.frame.names, ap length (model_kinds image), model_names image)),
         )
 
-    same_limits : (v : ℕ) → Dec (v ≡ 0) → in_limits low high v ≡ held_fits (model_of image) last v
+    same_limits : (v : ℕ) → Dec (v ≡ 0) → in_limits limits v ≡ held_fits (model_of image) last v
     same_limits v (yes e) =
-        same_test (in_limits low high v) (held_fits (model_of image) last v) (λ t. absurd (none_out v e t)) (λ t. absurd (((held_iff (model_of image) last v).0 t).given e))
+        same_test (in_limits limits v) (held_fits (model_of image) last v) (λ t. absurd (none_out v e t)) (λ t. absurd (((held_iff (model_of image) last v).0 t).given e))
     same_limits v (no f) =
         let x = inside_limits v f (dec_lt (held_number v) l.names) in
-        same_test (in_limits low high v) (held_fits (model_of image) last v) (λ t. (held_iff (model_of image) last v).1 (x.0 t)) (λ t. x.1 ((held_iff (model_of image) last v).0 t))
+        same_test (in_limits limits v) (held_fits (model_of image) last v) (λ t. (held_iff (model_of image) last v).1 (x.0 t)) (λ t. x.1 ((held_iff (model_of image) last v).0 t))
 
-  pub limits_end : LimitsFor l st low high
+  pub limits_end : LimitsFor l st limits
   unfolding last
-  limits_end = record { limits = λ image lay. record { same = λ v. same_limits image lay v (ℕ_discrete v 0) } }
+  limits_end = record { are = λ image lay. record { same = λ v. same_limits image lay v (ℕ_discrete v 0) } }
 
-pub ruleset limits = (rules, entry_is, entry_below, entry_scale, in_limits_lem, record_long, last-is, last_test, joining_start, joining_turn, joining_end, least_free, least_made, binder_below, binder_stamp, largest_some, largest_none, largest_free, largest_received, largest_made_lem, limits_start, limits_turn, limits_end, low_room, high_room)
+pub ruleset limits = (entry_is, entry_below, in_limits_lem, last-is, last_test, joining_start, joining_turn, joining_end, least_free, least_made, binder_below, binder_stamp, largest_some, largest_none, largest_free, largest_received, largest_made_lem, limits_start, limits_turn, limits_end)

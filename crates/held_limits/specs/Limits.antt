@@ -11,18 +11,19 @@ use Rattle.definitions.specs.StateRules.{held_fits}
 use Rattle.layouts.specs.declared.Layout.{Layout}
 use Rattle.layouts.specs.LayoutOf.{LayoutOf}
 use Rattle.layouts.specs.Owners.{first_binder}
+use Rattle.held_limits.specs.declared.Limits.{Limits}
 
 -- the entry of a held name: its number; of none, 63, which is no name's number
 unfoldable pub entry_of : ℕ → ℕ
 entry_of v = (v + 63) % 64
 
 -- v lies within the limits of its entry
-unfoldable pub in_limits : List ℕ → List ℕ → ℕ → Bool
-in_limits low high v = slice_index_or low (entry_of v) 0 upto v and v upto slice_index_or high (entry_of v) 0
+unfoldable pub in_limits : Limits → ℕ → Bool
+in_limits limits v = slice_index_or limits.low (entry_of v) 0 upto v and v upto slice_index_or limits.high (entry_of v) 0
 
 -- a held name lies within its limits exactly when it is in order: in model m, where `last` gives each box's last stamp
-pub record LimitsOf (m : Model) (last : ℕ → ℕ) (low high : List ℕ) : Type 0 where
-  pub same : (v : ℕ) → in_limits low high v ≡ held_fits m last v
+pub record LimitsOf (m : Model) (last : ℕ → ℕ) (limits : Limits) : Type 0 where
+  pub same : (v : ℕ) → in_limits limits v ≡ held_fits m last v
 
 -- the least held name of number n: a free name holds itself with stamp 0, and a made one has stamp 1 at least
 unfoldable pub least_held : ℕ → ℕ → ℕ
@@ -50,5 +51,5 @@ pub record StampsFit (st : List ℕ) (boxes : ℕ) : Type 0 where
   pub stamps : all_below boxes (last_fits st) ≡ true
 
 -- the limits for a layout's model, whatever image the layout is of
-pub record LimitsFor (l : Layout) (st low high : List ℕ) : Type 0 where
-  pub limits : (image : List ℕ) → LayoutOf image l → LimitsOf (model_of image) (last_stamps st) low high
+pub record LimitsFor (l : Layout) (st : List ℕ) (limits : Limits) : Type 0 where
+  pub are : (image : List ℕ) → LayoutOf image l → LimitsOf (model_of image) (last_stamps st) limits

@@ -18,8 +18,8 @@ use Rattle.records.specs.Places.{LinesThere, line_record_at}
 use Rattle.box_runs.specs.Runs.{bound_in}
 use Rattle.layouts.specs.declared.Layout.{Layout}
 use Rattle.layouts.specs.LayoutOf.{FrameOf, LayoutOf}
-use Rattle.layouts.proofs.LayoutLaws.{set_entry}
-use Rattle.layouts.proofs.FrameLaws.{inside, in_room, in_scale, lines_at}
+use Rattle.layouts.proofs.LayoutLaws.{right, set_entry}
+use Rattle.layouts.proofs.FrameLaws.{inside, lines_at}
 
 -- a frame with the names that lines bind is a layout
 pub frame_bound : (image : List ℕ) (l : Layout) (x : List ℕ) → FrameOf image l
@@ -62,31 +62,31 @@ bound_box image b n =
     ∙ ap (λ (m : ℕ). any_below m (λ i. binds (line_at (box_of_image image b) i) n)) (sym (box_lines image b))
 
 -- the names that the lines of the boxes before b bind
-pub record BoundSoFar (image : List ℕ) (b : ℕ) (bound : List ℕ) : Type 0 where
+pub record BoundSoFar (image : List ℕ) (boxes b : ℕ) (bound : List ℕ) : Type 0 where
+  pub few : boxes ≤ 8
   pub long : length bound ≡ 8
   pub binders : (c : ℕ) → c < b → (n : ℕ) → n < 64 → has (get_or bound c 0) n ≡ binds_in (box_of_image image c) n
 
-pub bound-start : (image bound : List ℕ) → length bound ≡ 8 → BoundSoFar image 0 bound
-bound-start image bound e = record { long = e; binders = λ c l. absurd (omega arith) }
+module _ (image : List ℕ) (l : Layout) (f : blocks_fault image ≡ none) (h : FrameOf image l) where
+  pub bound_start : (bound : List ℕ) → length bound ≡ 8 → BoundSoFar image l.boxes 0 bound
+  bound_start bound e = record { few = omega (arith, (right image f).head.boxes, h.boxes); long = e; binders = λ c l. absurd (omega arith) }
 
-module _ (image : List ℕ) (l : Layout) (f : blocks_fault image ≡ none) (h : FrameOf image l) (b : ℕ) (q : b < l.boxes) where
-  pub bound-there : LinesThere image (get_or l.at b 0) (get_or l.lines b 0)
-  bound-there = (lines_at image l f h b q).there
+  module _ (b : ℕ) (q : b < l.boxes) where
+    pub bound-there : LinesThere image (get_or l.at b 0) (get_or l.lines b 0)
+    bound-there = (lines_at image l f h b q).there
 
-  module _ (bound : List ℕ) (p : BoundSoFar image b bound) where
-    pub bound-room : b < length bound
-    bound-room = omega (arith, p.long, in_room image l f h b q)
-
-    pub bound_more : (w : ℕ) → SetOf w (bound_in image (get_or l.at b 0) (get_or l.lines b 0)) → BoundSoFar image (b + 1) (set bound b w)
-    bound_more w s =
+    pub bound_more : (bound : List ℕ) → BoundSoFar image l.boxes b bound → (w : ℕ) → SetOf w (bound_in image (get_or l.at b 0) (get_or l.lines b 0))
+        → BoundSoFar image l.boxes (b + 1) (set bound b w)
+    bound_more bound p w s =
         let k = inside image l f h b q in
         record {
+          few = p.few;
           long = length-set bound b w ∙ p.long;
-          binders = set_entry (λ c v. (n : ℕ) → n < 64 → has v n ≡ binds_in (box_of_image image c) n) bound b w bound-room p.binders
+          binders = set_entry (λ c v. (n : ℕ) → n < 64 → has v n ≡ binds_in (box_of_image image c) n) bound b w (omega (arith, p.few, p.long)) p.binders
               (λ n z. s.at n z ∙ ap₂ (λ (i m : ℕ). bound_in image i m n) (h.at b k) (h.lines b k) ∙ bound_box image b n);
         }
 
-pub bound_end : (image : List ℕ) (l : Layout) (b : ℕ) (bound : List ℕ) → FrameOf image l → BoundSoFar image b bound → l.boxes ≤ b
+pub bound_end : (image : List ℕ) (l : Layout) (b : ℕ) (bound : List ℕ) → FrameOf image l → BoundSoFar image l.boxes b bound → l.boxes ≤ b
     → LayoutOf image (record {
       names = l.names;
       boxes = l.boxes;
@@ -109,4 +109,4 @@ binds_in_lem image l f h b q =
     let k = inside image l f h.frame b q in
     record { at = λ n z. h.bound b k n z ∙ ap (λ (x : Box). binds_in x n) (sym (model_box image b k)) }
 
-pub ruleset bounds = (rules, in_room, in_scale, bound-start, bound-there, bound-room, bound_more, bound_end)
+pub ruleset bounds = (rules, bound_start, bound-there, bound_more, bound_end)

@@ -5,15 +5,13 @@ use mathlib.Core.List.{List}
 use mathlib.Core.Logic.{◌⊎◌, inl, inr, ⊎_elim}
 use mathlib.Core.Option.{none}
 use Prim.Native.Nat.{ℕ, ◌+◌, ◌-◌, ◌*◌, ◌≤◌, ◌<◌, zero-le}
-use native.Mathlib.Nat.{le_refl, le_antisymm}
+use native.Mathlib.Nat.{le_refl}
 use native.Mathlib.Omega.{arith}
 use native.Mathlib.Decide.{ℕ_discrete}
 use borrow.Author.Rules.{rules}
 use lib.Dec.{T, eqb}
 use lib.ListN.{length, get_or, set, length-set}
 use lib.Seq.{get_or-set_same, get_or-set_other}
-use mir.Syntax.{w64}
-use mir.Val.{Fits}
 use Rattle.definitions.specs.Bounded.{◌and◌, ◌or◌, ◌is◌, ◌below◌}
 use Rattle.definitions.specs.Sets.{has}
 use Rattle.definitions.specs.Words.{block_of, count_of, data_word}
@@ -24,7 +22,7 @@ use Rattle.definitions.proofs.Bounded.{and_iff, or_iff, is_iff, below_iff, false
 use Rattle.definitions.proofs.Sets.{has-none}
 use Rattle.definitions.proofs.Image.{model_kind}
 use Rattle.definitions.proofs.ReadModel.{Blocks, blocks_iff, some_block, most_blocks, sites-first, sites-next, lines_most}
-use Rattle.layouts.specs.declared.Kinds.{Kinds}
+use Rattle.line_table.specs.declared.Kinds.{Kinds}
 use Rattle.layouts.specs.declared.BoxLayout.{BoxLayout}
 use Rattle.records.specs.NameSets.{SetOf, insert_if}
 use Rattle.layouts.specs.Layouts.{is_below, kind_in, line_total, KindInserted, KindSetsOf, BoxLayoutOf}
@@ -110,31 +108,19 @@ module _ (block : List ℕ) where
     exposed = one_kind block 3 n s.exposed r.exposed w p.exposed e f.exposed;
   }
 
-  pub kinds_all : (n i : ℕ) (s : Kinds) → i ≤ n → n ≤ i → KindSetsOf block i s → KindSetsOf block n s
-  kinds_all n i s g l p = subst (λ (j : ℕ). KindSetsOf block j s) (le_antisymm g l) p
-
 -- ---- a box's row
 
 module _ (image : List ℕ) (k n : ℕ) (e : n ≡ line_blocks 4 image (k + 1)) where
   pub some_lines : 1 ≤ n
   some_lines = let h = some_block 3 image (k + 1) in omega arith
 
-  pub few_lines : Fits w64 (31 * (n - 1))
-  few_lines = let h = most_blocks 4 image (k + 1) in omega arith
-
-  pub last_block : k ≤ 99 → Fits w64 (k + n)
-  last_block l = let h = most_blocks 4 image (k + 1) in omega arith
-
-  pub next_block : k ≤ 99 → Fits w64 (k + 1 + n)
-  next_block l = let h = most_blocks 4 image (k + 1) in omega arith
+  pub few_blocks : n ≤ 4
+  few_blocks = let h = most_blocks 4 image (k + 1) in omega arith
 
   pub total_is : (c : ℕ) → c ≡ count_of (block_of image (k + n)) → 31 * (n - 1) + c ≡ line_total image k
   unfolding line_total
   total_is c q =
       ap (λ (i : ℕ). 31 * (n - 1) + i) q ∙ ap (λ (m : ℕ). 31 * (m - 1) + count_of (block_of image (k + m))) e
-
-  pub total_fits : (c : ℕ) → c ≡ count_of (block_of image (k + n)) → line_total image k ≤ 124 → Fits w64 (31 * (n - 1) + c)
-  total_fits c q l = let h = total_is c q in omega arith
 
 pub box_layout_is : (image : List ℕ) (k n c m : ℕ) → n ≡ line_total image k → c ≡ count_of (block_of image k) → m ≡ line_blocks 4 image (k + 1)
     → BoxLayoutOf image k (record { sites = c; lines = n; next = k + 1 + m })
@@ -212,15 +198,6 @@ module _ (image : List ℕ) (boxes b k : ℕ) (at sites lines : List ℕ) (p : F
   pub total_few : blocks_fault image ≡ none → b < boxes → line_total image k ≤ 124
   total_few f l = let z = p.all in omega (arith, total_here, lines_most image (right image f) b (omega arith))
 
-  pub at_room : b < boxes → b < length at
-  at_room l = let z = p.at_long in let q = p.few in omega arith
-
-  pub sites-room : b < boxes → b < length sites
-  sites-room l = let z = p.sites_long in let q = p.few in omega arith
-
-  pub lines_room : b < boxes → b < length lines
-  lines_room l = let z = p.lines_long in let q = p.few in omega arith
-
   pub frame_more : (r : BoxLayout) → b < boxes → BoxLayoutOf image k r
       → FrameSoFar image boxes (b + 1) r.next (set at b k) (set sites b r.sites) (set lines b r.lines)
   frame_more r l t = record {
@@ -232,10 +209,10 @@ module _ (image : List ℕ) (boxes b k : ℕ) (at sites lines : List ℕ) (p : F
     at_long = length-set at b k ∙ p.at_long;
     sites_long = length-set sites b r.sites ∙ p.sites_long;
     lines_long = length-set lines b r.lines ∙ p.lines_long;
-    ats = set_entry (λ c v. v ≡ sites_block image c) at b k (at_room l) p.ats p.here;
-    counts = set_entry (λ c v. v ≡ count_of (block_of image (sites_block image c))) sites b r.sites (sites-room l) p.counts
+    ats = set_entry (λ c v. v ≡ sites_block image c) at b k (omega (arith, p.at_long, p.few)) p.ats p.here;
+    counts = set_entry (λ c v. v ≡ count_of (block_of image (sites_block image c))) sites b r.sites (omega (arith, p.sites_long, p.few)) p.counts
         (t.sites ∙ ap (λ (i : ℕ). count_of (block_of image i)) p.here);
-    totals = set_entry (λ c v. v ≡ lines_of image c) lines b r.lines (lines_room l) p.totals (t.lines ∙ total_here);
+    totals = set_entry (λ c v. v ≡ lines_of image c) lines b r.lines (omega (arith, p.lines_long, p.few)) p.totals (t.lines ∙ total_here);
   }
 
 -- ---- the whole
@@ -281,4 +258,20 @@ frame_end image names boxes b k at sites lines bound s p l e t = record {
   exposed = of_kind image names 3 s.exposed e t.exposed;
 }
 
-pub ruleset layouts = (rules, kinds_none, kinds_insert, kinds_all, some_lines, few_lines, last_block, next_block, total_is, total_fits, box_layout_is, head_inside, head_long, names_few, frame_start, box_small, total_few, at_room, sites-room, lines_room, frame_more, frame_end)
+pub ruleset layouts = (
+  rules,
+  kinds_none,
+  kinds_insert,
+  some_lines,
+  few_blocks,
+  total_is,
+  box_layout_is,
+  head_inside,
+  head_long,
+  names_few,
+  frame_start,
+  box_small,
+  total_few,
+  frame_more,
+  frame_end,
+)

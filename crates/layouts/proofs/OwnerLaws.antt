@@ -2,13 +2,11 @@
 use mathlib.Core.Path.{◌≡◌, sym, ap, ◌∙◌}
 use mathlib.Core.Bool.{Bool, true, false}
 use mathlib.Core.List.{List}
-use mathlib.Core.Option.{Option}
-use Prim.Native.Nat.{ℕ, ◌+◌, ◌*◌, ◌≤◌, ◌<◌}
+use mathlib.Core.Option.{Option, none, some}
+use Prim.Native.Nat.{ℕ, ◌+◌, ◌≤◌, ◌<◌}
 use native.Mathlib.Omega.{arith}
 use borrow.Author.Rules.{rules}
 use lib.ListN.{get_or}
-use mir.Syntax.{w64}
-use mir.Val.{Fits}
 use Rattle.definitions.specs.Bounded.{some_if, first_below}
 use Rattle.definitions.specs.Sets.{has}
 use Rattle.definitions.specs.Model.{Box, box_at, box_count, binds_in, owner}
@@ -16,10 +14,9 @@ use Rattle.definitions.specs.Image.{boxes_of, model_of}
 use Rattle.definitions.proofs.Bounded.{first_cong}
 use Rattle.definitions.proofs.Loops.{Passed, passed_start, passed-turn, passed_stop, passed_end}
 use Rattle.definitions.proofs.Image.{model_count, model_box}
-use Rattle.layouts.specs.declared.Owner.TheVariants.{Nobody, Of}
 use Rattle.layouts.specs.declared.Layout.{Layout}
 use Rattle.layouts.specs.LayoutOf.{LayoutOf}
-use Rattle.layouts.specs.Owners.{owner_in, first_binder}
+use Rattle.layouts.specs.Owners.{first_binder}
 
 abbrev binder_at : List ℕ → ℕ → ℕ → Option ℕ
 binder_at bound n b = some_if (has (get_or bound b 0) n) b
@@ -29,27 +26,21 @@ pub record NotYet (bound : List ℕ) (boxes n b : ℕ) : Type 0 where
   pub passed : Passed boxes (binder_at bound n) b
 
 module _ (bound : List ℕ) (boxes n : ℕ) where
-  pub owner-start : NotYet bound boxes n 0
-  owner-start = record { passed = passed_start boxes (binder_at bound n) }
+  pub owner_start : NotYet bound boxes n 0
+  owner_start = record { passed = passed_start boxes (binder_at bound n) }
 
-  pub owner-turn : (b : ℕ) (t : Bool) → NotYet bound boxes n b → b < boxes → t ≡ has (get_or bound b 0) n → t ≡ false → NotYet bound boxes n (b + 1)
-  owner-turn b t p q e z = record {
+  pub owner_turn : (b : ℕ) (t : Bool) → NotYet bound boxes n b → b < boxes → t ≡ has (get_or bound b 0) n → t ≡ false → NotYet bound boxes n (b + 1)
+  owner_turn b t p q e z = record {
     passed = passed-turn boxes (binder_at bound n) b p.passed q (ap (λ (s : Bool). some_if s b) (sym z ∙ e));
   }
 
-  pub owner_stop : (b : ℕ) (t : Bool) → NotYet bound boxes n b → b < boxes → t ≡ has (get_or bound b 0) n → t ≡ true → owner_in (Of b) ≡ first_binder bound boxes n
+  pub owner_stop : (b : ℕ) (t : Bool) → NotYet bound boxes n b → b < boxes → t ≡ has (get_or bound b 0) n → t ≡ true → some b ≡ first_binder bound boxes n
   unfolding first_binder
   owner_stop b t p q e z = passed_stop boxes (binder_at bound n) b b p.passed q (ap (λ (s : Bool). some_if s b) (sym z ∙ e))
 
-  pub owner_end : (b : ℕ) → NotYet bound boxes n b → boxes ≤ b → owner_in Nobody ≡ first_binder bound boxes n
+  pub owner_end : (b : ℕ) → NotYet bound boxes n b → boxes ≤ b → none ≡ first_binder bound boxes n
   unfolding first_binder
   owner_end b p q = passed_end boxes (binder_at bound n) b p.passed q
-
-  pub owner-room : (b : ℕ) → boxes ≤ 8 → b < boxes → b < 8
-  owner-room b h q = omega arith
-
-  pub owner_scale : (b : ℕ) → boxes ≤ 8 → b < boxes → Fits w64 (b * 8)
-  owner_scale b h q = omega arith
 
 -- the first box of a layout that binds a name is the name's owner
 pub binder_owner : (image : List ℕ) (l : Layout) (n : ℕ) → LayoutOf image l → n < 64 → first_binder l.bound l.boxes n ≡ owner (model_of image) n
@@ -60,4 +51,4 @@ binder_owner image l n h w =
     (λ b q. let k : b < boxes_of image = omega (arith, model_count image) in
     ap (λ (t : Bool). some_if t b) (h.bound b k n w ∙ ap (λ (x : Box). binds_in x n) (sym (model_box image b k))))
 
-pub ruleset owners = (rules, owner-start, owner-turn, owner_stop, owner_end, owner-room, owner_scale)
+pub ruleset owners = (rules, owner_start, owner_turn, owner_stop, owner_end)

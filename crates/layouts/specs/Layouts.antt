@@ -3,10 +3,9 @@ use Rattle.std.specs.Prelude.{◌≡◌, Bool, List, ℕ, ◌+◌, ◌-◌, ◌*
 use Rattle.definitions.specs.Bounded.{◌and◌, ◌or◌, ◌is◌, ◌below◌}
 use Rattle.definitions.specs.Sets.{has}
 use Rattle.definitions.specs.Words.{block_of, count_of, data_word}
-use Rattle.definitions.specs.Model.{listed}
 use Rattle.definitions.specs.Image.{line_blocks}
 use Rattle.records.specs.NameSets.{SetOf, insert_if}
-use Rattle.layouts.specs.declared.Kinds.{Kinds}
+use Rattle.line_table.specs.declared.Kinds.{Kinds}
 use Rattle.layouts.specs.declared.BoxLayout.{BoxLayout}
 
 -- the name m is one of the first n, and of kind k

@@ -8,6 +8,8 @@ ghost use Rattle.layouts.specs.Layouts.{line_total, KindInserted, KindSetsOf, Bo
 ghost use Rattle.layouts.specs.LayoutOf.{FrameOf, LayoutOf};
 ghost use Rattle.layouts.specs.Owners.{owner_in, first_binder};
 
+pub use line_table::Kinds;
+use records::NameKind;
 use records::names::insert_if;
 use sets::NameNo;
 
@@ -28,32 +30,24 @@ pub struct Layout {
     pub exposed: u64,
 }
 
-// The listed names, and those of each kind.
-#[derive(Clone, Copy)]
-pub struct Kinds {
-    pub listed: u64,
-    pub free: u64,
-    pub restricted: u64,
-    pub received: u64,
-    pub exposed: u64,
-}
-
 // Name n, of a kind, put in.
 fn insert_kind(s: Kinds, n: NameNo, kind: u64) -> Kinds
     ensures { KindInserted s n.0 kind result }
 {
     Kinds {
         listed: sets::insert(s.listed, n),
-        free: insert_if(s.free, n, kind == 0),
-        restricted: insert_if(s.restricted, n, kind == 1),
-        received: insert_if(s.received, n, kind == 2),
-        exposed: insert_if(s.exposed, n, kind == 3),
+        free: insert_if(s.free, n, kind == NameKind::Free as u64),
+        restricted: insert_if(s.restricted, n, kind == NameKind::Restricted as u64),
+        received: insert_if(s.received, n, kind == NameKind::Received as u64),
+        exposed: insert_if(s.exposed, n, kind == NameKind::Exposed as u64),
     }
 }
 
 // The names of the head, by kind.
+#[tactic(auto, using(crate::proofs::LayoutLaws::layouts))]
 fn kind_sets(image: &[u8], names: usize) -> Kinds
-    requires { (512 ≤ length image.now) × (names ≤ 60) }
+    requires there { 512 ≤ length image.now }
+    requires few { names ≤ 60 }
     ensures { KindSetsOf (block_of image.now 0) names result }
 {
     let mut s = Kinds {
@@ -63,21 +57,19 @@ fn kind_sets(image: &[u8], names: usize) -> Kinds
         received: 0,
         exposed: 0,
     };
-    let mut n: usize = 0;
-    while n < names {
-        s = insert_kind(
-            s,
-            NameNo(n as u8),
-            blocks::inside::data_word(image, 0, 2 + n),
-        );
-        n += 1;
+    for n in 0..names {
+        let kind = blocks::inside::data_word(image, 0, 2 + n);
+        s = insert_kind(s, NameNo(n as u8), kind);
     }
     s
 }
 
 // How many lines follow block k.
+#[tactic(auto, using(crate::proofs::LayoutLaws::layouts))]
 fn line_total(image: &[u8], k: usize) -> usize
-    requires { (length image.now % 512 ≡ 0) × (k ≤ 99) × (line_total image.now k ≤ 124) }
+    requires whole { length image.now % 512 ≡ 0 }
+    requires block { k ≤ 99 }
+    requires few { line_total image.now k ≤ 124 }
     ensures { result ≡ line_total image.now k }
 {
     let n = block_order::line_blocks(image, k + 1);
@@ -93,8 +85,11 @@ pub struct BoxLayout {
 }
 
 // The box whose sites are block k.
+#[tactic(auto, using(crate::proofs::LayoutLaws::layouts))]
 fn box_layout(image: &[u8], k: usize) -> BoxLayout
-    requires { (length image.now % 512 ≡ 0) × (k ≤ 99) × (line_total image.now k ≤ 124) }
+    requires whole { length image.now % 512 ≡ 0 }
+    requires block { k ≤ 99 }
+    requires few { line_total image.now k ≤ 124 }
     ensures { BoxLayoutOf image.now k result }
 {
     BoxLayout {
@@ -105,8 +100,10 @@ fn box_layout(image: &[u8], k: usize) -> BoxLayout
 }
 
 // All of the layout but the names that lines bind.
+#[tactic(auto, using(crate::proofs::LayoutLaws::layouts))]
 pub fn frame_of(image: &[u8]) -> Layout
-    requires { (length image.now % 512 ≡ 0) × (blocks_fault image.now ≡ none) }
+    requires whole { length image.now % 512 ≡ 0 }
+    requires blocks { blocks_fault image.now ≡ none }
     ensures { FrameOf image.now result }
 {
     let names = blocks::inside::data_word(image, 0, 0) as usize;
@@ -116,14 +113,12 @@ pub fn frame_of(image: &[u8]) -> Layout
     let mut sites = [0usize; 8];
     let mut lines = [0usize; 8];
     let mut k = 1;
-    let mut b = 0;
-    while b < boxes {
+    for b in 0..boxes {
         let found = box_layout(image, k);
         at[b] = k;
         sites[b] = found.sites;
         lines[b] = found.lines;
         k = found.next;
-        b += 1;
     }
     Layout {
         names,
@@ -141,54 +136,30 @@ pub fn frame_of(image: &[u8]) -> Layout
 }
 
 // The frame, and the names that the lines of each box bind.
+#[tactic(auto, using(crate::proofs::BoundLaws::bounds))]
 pub fn layout_of(image: &[u8]) -> Layout
-    requires { (length image.now % 512 ≡ 0) × (blocks_fault image.now ≡ none) }
+    requires whole { length image.now % 512 ≡ 0 }
+    requires blocks { blocks_fault image.now ≡ none }
     ensures { LayoutOf image.now result }
 {
-    let l = frame_of(image);
-    let at = l.at;
-    let sites = l.sites;
-    let lines = l.lines;
-    let boxes = l.boxes;
+    let frame = frame_of(image);
     let mut bound = [0u64; 8];
-    let mut b = 0;
-    while b < boxes {
-        bound[b] = box_runs::bound_by(image, at[b], lines[b]);
-        b += 1;
+    for b in 0..frame.boxes {
+        bound[b] = box_runs::bound_by(image, frame.at[b], frame.lines[b]);
     }
-    Layout {
-        names: l.names,
-        boxes,
-        at,
-        sites,
-        lines,
-        bound,
-        listed: l.listed,
-        free: l.free,
-        restricted: l.restricted,
-        received: l.received,
-        exposed: l.exposed,
-    }
-}
-
-// The box that binds a name.
-#[derive(Clone, Copy)]
-pub enum Owner {
-    Nobody,
-    Of(usize),
+    Layout { bound, ..frame }
 }
 
 // Of so many boxes, the first whose lines bind a name; bound: for each box, the names that its lines bind.
-pub fn owner_of(bound: &[u64; 8], boxes: usize, n: NameNo) -> Owner
+#[tactic(auto, using(crate::proofs::OwnerLaws::owners))]
+pub fn owner_of(bound: &[u64; 8], boxes: usize, n: NameNo) -> Option<usize>
     requires { boxes ≤ 8 }
     ensures { owner_in result ≡ first_binder bound.now boxes n.0 }
 {
-    let mut b = 0;
-    while b < boxes {
+    for b in 0..boxes {
         if sets::contains(bound[b], n) {
-            return Owner::Of(b);
+            return Some(b);
         }
-        b += 1;
     }
-    Owner::Nobody
+    None
 }

@@ -9,7 +9,7 @@ use native.Mathlib.Omega.{arith}
 use native.Mathlib.Decide.{ℕ_discrete}
 use borrow.Author.Rules.{rules}
 use lib.Dec.{T, eqb}
-use lib.ListN.{length, get_or, set, replicate, length-set, length-replicate, get_or-replicate}
+use lib.ListN.{length, get_or, set, replicate, get_or-replicate}
 use lib.Seq.{get_or-set_same, get_or-set_other}
 use Rattle.definitions.specs.Bounded.{◌or◌, ◌is◌, any_below}
 use Rattle.definitions.specs.Sets.{has, within}
@@ -41,14 +41,16 @@ within_left v w u j = (within_iff w v).1 (λ n l h. of_true (j n ∙ true_of (ha
 within_right : (v w u : ℕ) → UnionOf v w u → T (within u v)
 within_right v w u j = (within_iff u v).1 (λ n l h. of_true (j n ∙ true_of (has w n or has u n) ((or_iff (has w n) (has u n)).1 (inr h))))
 
-pub sent_put : (old : List ℕ) (l : paper.Line) (q x u w : ℕ) → x ≡ get_or old l.name1 0 → (l.op ≡ 4 → u ≡ q) → UnionOf w x u
-    → SentPut old l q (set old l.name1 w)
-sent_put old l q x u w e f j = record {
-  value = w;
-  put = refl;
-  keeps = subst (λ (y : ℕ). T (within y w)) e (within_left w x u j);
-  sends = λ o. subst (λ (y : ℕ). T (within y w)) (f o) (within_right w x u j);
-}
+pub sent_put : (old : List ℕ) (l : paper.Line) (q p x u w : ℕ) → p ≡ l.name1 → x ≡ get_or old p 0 → (l.op ≡ 4 → u ≡ q) → UnionOf w x u
+    → SentPut old l q (set old p w)
+sent_put old l q p x u w ep ex f j =
+    let e : x ≡ get_or old l.name1 0 = ex ∙ ap (λ (y : ℕ). get_or old y 0) ep in
+    record {
+      value = w;
+      put = ap (λ (y : ℕ). set old y w) ep;
+      keeps = subst (λ (y : ℕ). T (within y w)) e (within_left w x u j);
+      sends = λ o. subst (λ (y : ℕ). T (within y w)) (f o) (within_right w x u j);
+    }
 
 module _ (old : List ℕ) (c i : ℕ) (l : paper.Line) (r : Bool) (e : r ≡ (eqb l.op 5 or eqb l.op 6)) where
   pub line_more : r ≡ true → ListPut old c i l (set old c i) (c + 1)
@@ -63,16 +65,13 @@ module _ (old : List ℕ) (c i : ℕ) (l : paper.Line) (r : Bool) (e : r ≡ (eq
     more = λ o. absurd (not-false (sym e ∙ t) ((or_iff (eqb l.op 5) (eqb l.op 6)).1 (⊎_elim (λ z. inl ((is_iff l.op 5).1 z)) (λ z. inr ((is_iff l.op 6).1 z)) o)));
   }
 
-pub ruleset puts = (rules, name_put, sent_put, line_more, line_same)
+pub ruleset puts = (rules, name_put, line_more, line_same)
 
 -- ---- the lines so far
 
-module _ (model estimate : List ℕ) (k n : ℕ) where
+module _ (model estimate : List ℕ) (k : ℕ) where
   pub gathers_start : (ops sent listed : List ℕ) → ops ≡ replicate 16 0 → sent ≡ replicate 64 0 → listed ≡ replicate 128 0 → Gathers model estimate k 0 ops sent listed 0
   gathers_start ops sent listed a b d = record {
-    ops_long = ap length a ∙ length-replicate {A = ℕ} 16 0;
-    sent_long = ap length b ∙ length-replicate {A = ℕ} 64 0;
-    listed_long = ap length d ∙ length-replicate {A = ℕ} 128 0;
     few = zero-le;
     names = λ o l. record { below = λ m h t. absurd (not-false (ap (λ (x : ℕ). has x m) (ap (λ (x : List ℕ). get_or x o 0) a ∙ get_or-replicate {A = ℕ} 16 o 0 0 l) ∙ has-none m) t) };
     named = λ j l. absurd (not-suc-le-zero l);
@@ -81,7 +80,7 @@ module _ (model estimate : List ℕ) (k n : ℕ) where
     inside = λ m l. absurd (not-suc-le-zero l);
   }
 
-  module _ (i c : ℕ) (ops sent listed : List ℕ) (g : Gathers model estimate k i ops sent listed c) (h : i < n) (there : LinesOfNames model k n)
+  module _ (n i c : ℕ) (ops sent listed : List ℕ) (lo : length ops ≡ 16) (ls : length sent ≡ 64) (ll : length listed ≡ 128) (g : Gathers model estimate k i ops sent listed c) (h : i < n) (there : LinesOfNames model k n)
       (l : paper.Line) (el : l ≡ line_record_at model k i) (q : ℕ) (eq : q ≡ (estimate_of estimate).rho l.name2) (ops' sent' listed' : List ℕ) (r : ℕ)
       (np : NamePut ops l ops') (sp : SentPut sent l q sent') (lp : ListPut listed c i l listed' r) where
     o : ℕ
@@ -103,7 +102,7 @@ module _ (model estimate : List ℕ) (k n : ℕ) where
     op_keeps x m a b t = pick (ℕ_discrete x o)
       where
         pick : Dec (x ≡ o) → T (has (get_or ops' x 0) m)
-        pick (yes z) = rw (np.put, z, get_or-set_same ops o np.value 0 (omega (arith, g.ops_long, small)))
+        pick (yes z) = rw (np.put, z, get_or-set_same ops o np.value 0 (omega (arith, lo, small)))
             (of_true (np.members m b ∙ true_of (has (get_or ops o 0) m or l.name1 is m) ((or_iff (has (get_or ops o 0) m) (l.name1 is m)).1 (inl (subst (λ (y : ℕ). T (has (get_or ops y 0) m)) z t)))))
         pick (no z) = rw (np.put, get_or-set_other ops o x np.value 0 z) t
 
@@ -112,7 +111,7 @@ module _ (model estimate : List ℕ) (k n : ℕ) where
     op_here =
         let m = l.name1 in
         let b : m < 64 = omega (arith, names_of.first) in
-        rw (np.put, get_or-set_same ops o np.value 0 (omega (arith, g.ops_long, small)))
+        rw (np.put, get_or-set_same ops o np.value 0 (omega (arith, lo, small)))
         (of_true (np.members m b ∙ true_of (has (get_or ops o 0) m or m is m) ((or_iff (has (get_or ops o 0) m) (m is m)).1 (inr ((is_iff m m).1 refl)))))
 
     op_names : (x : ℕ) → x < 16 → NamesOnly (get_or ops' x 0)
@@ -124,7 +123,7 @@ module _ (model estimate : List ℕ) (k n : ℕ) where
           below = λ m b t.
               ⊎_elim (λ u. (g.names o small).below m b u) (λ u. subst (λ (y : ℕ). y < 60) ((is_iff l.name1 m).0 u) names_of.first)
               ((or_iff (has (get_or ops o 0) m) (l.name1 is m)).0 (of_true (sym (np.members m b) ∙ true_of (has np.value m)
-              (rw (np.put, z, get_or-set_same ops o np.value 0 (omega (arith, g.ops_long, small))) at t))));
+              (rw (np.put, z, get_or-set_same ops o np.value 0 (omega (arith, lo, small))) at t))));
         }
         pick (no z) = rw (np.put, get_or-set_other ops o x np.value 0 z) (g.names x a)
 
@@ -133,19 +132,19 @@ module _ (model estimate : List ℕ) (k n : ℕ) where
     sent_keeps p w a t = pick (ℕ_discrete p l.name1)
       where
         pick : Dec (p ≡ l.name1) → T (within w (get_or sent' p 0))
-        pick (yes z) = rw (sp.put, z, get_or-set_same sent l.name1 sp.value 0 (omega (arith, g.sent_long, names_of.first)))
+        pick (yes z) = rw (sp.put, z, get_or-set_same sent l.name1 sp.value 0 (omega (arith, ls, names_of.first)))
             (within_trans w (get_or sent l.name1 0) sp.value (subst (λ (y : ℕ). T (within w (get_or sent y 0))) z t) sp.keeps)
         pick (no z) = rw (sp.put, get_or-set_other sent l.name1 p sp.value 0 z) t
 
     sent_here : l.op ≡ paper.output → T (within q (get_or sent' l.name1 0))
-    sent_here e = rw (sp.put, get_or-set_same sent l.name1 sp.value 0 (omega (arith, g.sent_long, names_of.first))) (sp.sends e)
+    sent_here e = rw (sp.put, get_or-set_same sent l.name1 sp.value 0 (omega (arith, ls, names_of.first))) (sp.sends e)
 
     -- the list
     list_keeps : (m : ℕ) → m < c → get_or listed' m 0 ≡ get_or listed m 0
     list_keeps m a = ap (λ (x : List ℕ). get_or x m 0) lp.put ∙ get_or-set_other listed c m i 0 (λ z. absurd (omega arith))
 
     list_here : get_or listed' c 0 ≡ i
-    list_here = ap (λ (x : List ℕ). get_or x c 0) lp.put ∙ get_or-set_same listed c i 0 (omega (arith, g.listed_long, inside_few))
+    list_here = ap (λ (x : List ℕ). get_or x c 0) lp.put ∙ get_or-set_same listed c i 0 (omega (arith, ll, inside_few))
 
     list_old : (j : ℕ) → T (any_below c (λ m. get_or listed m 0 is j)) → T (any_below r (λ m. get_or listed' m 0 is j))
     list_old j t =
@@ -173,9 +172,6 @@ module _ (model estimate : List ℕ) (k n : ℕ) where
     pub gathers_turn : Gathers model estimate k (i + 1) ops' sent' listed' r
     unfolding o
     gathers_turn = record {
-      ops_long = ap length np.put ∙ length-set ops o np.value ∙ g.ops_long;
-      sent_long = ap length sp.put ∙ length-set sent l.name1 sp.value ∙ g.sent_long;
-      listed_long = ap length lp.put ∙ length-set listed c i ∙ g.listed_long;
       few = omega (arith, g.few, lp.most);
       names = op_names;
       named = each (λ j y. T (has (get_or ops' (y.op % 16) 0) y.name1))
@@ -188,17 +184,8 @@ module _ (model estimate : List ℕ) (k n : ℕ) where
       inside = list_inside;
     }
 
-  pub gathers_end : (i c : ℕ) (ops sent listed : List ℕ) → Gathers model estimate k i ops sent listed c → i ≤ n → n ≤ i → Gathers model estimate k n ops sent listed c
-  gathers_end i c ops sent listed g a b = subst (λ (x : ℕ). Gathers model estimate k x ops sent listed c) (le_antisymm a b) g
-
-pub gathers_ops : (model estimate : List ℕ) (k i c : ℕ) (ops sent listed : List ℕ) → Gathers model estimate k i ops sent listed c → length ops ≡ 16
-gathers_ops model estimate k i c ops sent listed g = g.ops_long
-
-pub gathers_sent : (model estimate : List ℕ) (k i c : ℕ) (ops sent listed : List ℕ) → Gathers model estimate k i ops sent listed c → length sent ≡ 64
-gathers_sent model estimate k i c ops sent listed g = g.sent_long
-
-pub gathers_listed : (model estimate : List ℕ) (k i c : ℕ) (ops sent listed : List ℕ) → Gathers model estimate k i ops sent listed c → length listed ≡ 128
-gathers_listed model estimate k i c ops sent listed g = g.listed_long
+  pub gathers_end : (n i c : ℕ) (ops sent listed : List ℕ) → Gathers model estimate k i ops sent listed c → i ≤ n → n ≤ i → Gathers model estimate k n ops sent listed c
+  gathers_end n i c ops sent listed g a b = subst (λ (x : ℕ). Gathers model estimate k x ops sent listed c) (le_antisymm a b) g
 
 module _ (model estimate : List ℕ) (k n i : ℕ) (there : LinesOfNames model k n) (h : i < n) where
   pub room : (c : ℕ) (ops sent listed : List ℕ) → Gathers model estimate k i ops sent listed c → c < 128
@@ -216,4 +203,4 @@ module _ (model estimate : List ℕ) (k n i : ℕ) (there : LinesOfNames model k
 pub second_name : (l : Line) → LineOfNames (line_in l) → l.name2.0 < 62
 second_name l f = omega (arith, f.second)
 
-pub ruleset gathering = (rules, gathers_start, gathers_turn, gathers_end, gathers_ops, gathers_sent, gathers_listed, room, place-room, line-there, line-named, second_name)
+pub ruleset gathering = (rules, gathers_end, room, place-room, line-there, line-named, second_name)

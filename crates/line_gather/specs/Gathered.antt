@@ -1,5 +1,5 @@
 -- What one walk over a box's lines gathers. Assumes nothing.
-use Rattle.std.specs.Prelude.{◌≡◌, List, ◌⊎◌, ℕ, ◌+◌, ◌%◌, ◌≤◌, ◌<◌, T, length, get_or, set}
+use Rattle.std.specs.Prelude.{◌≡◌, List, ◌⊎◌, ℕ, ◌+◌, ◌%◌, ◌≤◌, ◌<◌, T, get_or, set}
 use Rattle.definitions.specs.Bounded.{◌or◌, ◌is◌, any_below}
 use Rattle.definitions.specs.Sets.{has, within}
 use Rattle.definitions.specs.Model.{Line, output, input, expose}
@@ -39,9 +39,6 @@ pub record ListPut (old : List ℕ) (c i : ℕ) (l : Line) (new : List ℕ) (r :
 
 -- ops: for each operation the first names of its lines; sent: for each name what outputs on it send; listed: the inputs and exposes, c of them
 pub record Gathers (model estimate : List ℕ) (k n : ℕ) (ops sent listed : List ℕ) (c : ℕ) : Type 0 where
-  pub ops_long : length ops ≡ 16
-  pub sent_long : length sent ≡ 64
-  pub listed_long : length listed ≡ 128
   pub few : c ≤ n
   pub names : (o : ℕ) → o < 16 → NamesOnly (get_or ops o 0)
   pub named : (j : ℕ) → j < n → T (has (get_or ops ((line_record_at model k j).op % 16) 0) (line_record_at model k j).name1)

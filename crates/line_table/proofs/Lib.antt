@@ -1,4 +1,4 @@
 pub mod Digits
 pub mod Rows
 pub mod Lines
-pub mod WordLaws
+pub mod TypeLaws

@@ -2,11 +2,11 @@
 use mathlib.Core.Path.{◌≡◌, ap, ap₂, ◌∙◌, subst}
 use mathlib.Core.List.{List}
 use mathlib.Core.Logic.{⊎_elim}
-use Prim.Native.Nat.{ℕ, ◌-◌, ◌/◌, ◌%◌, ◌^◌, ◌<◌}
+use Prim.Native.Nat.{ℕ, ◌-◌, ◌^◌, ◌<◌}
 use borrow.Author.Rules.{rules}
 use lib.Dec.{T}
 use lib.Bits.{bit_and, bit_or}
-use lib.ListN.{length, get_or, set, length-set}
+use lib.ListN.{get_or, set}
 use Rattle.definitions.specs.Sets.{has}
 use Rattle.definitions.proofs.Bounded.{and_iff, or_iff, false_of, not-false}
 use Rattle.definitions.proofs.Sets.{has-and, has-or}
@@ -54,18 +54,15 @@ module _ (t : List ℕ) (a rest w ty v seen : ℕ) where
 
 -- the two places written
 module _ (t : List ℕ) (w here : ℕ) (up : List ℕ) where
-  pub children_told : (c1 c2 f1 f2 a8 a9 : ℕ) (mid new : List ℕ) → c1 ≡ w / 4294967296 % 128 → c2 ≡ w / 281474976710656 % 128 → f1 ≡ get_or up c1 0 → mid ≡ set up c1 here → f2 ≡ get_or mid c2 0 → new ≡ set mid c2 here → a8 ≡ row t 7 w → a9 ≡ row t 8 w
-      → ChildrenTold t w here up (bit_or (bit_and f1 a8) (bit_and f2 a9)) new
-  children_told c1 c2 f1 f2 a8 a9 mid new z1 z2 e1 e2 e3 e4 e5 e6 = record {
+  pub children_told : (f1 f2 d1 d2 a8 a9 : ℕ) → f1 ≡ get_or up (child1_of w) 0 → d1 ≡ here → f2 ≡ get_or (set up (child1_of w) d1) (child2_of w) 0 → d2 ≡ here
+      → a8 ≡ row t 7 w → a9 ≡ row t 8 w → ChildrenTold t w here up (bit_or (bit_and f1 a8) (bit_and f2 a9)) (set (set up (child1_of w) d1) (child2_of w) d2)
+  children_told f1 f2 d1 d2 a8 a9 e1 k1 e2 k2 e8 e9 = record {
     tells = λ e. record {
-      first = subst Empty (ap₂ bit_and (e1 ∙ ap (λ (c : ℕ). get_or up c 0) z1) e5) (empty_or_left (bit_and f1 a8) (bit_and f2 a9) e);
-      second = subst Empty (ap₂ bit_and (e3 ∙ ap₂ (λ (l : List ℕ) (c : ℕ). get_or l c 0) (e2 ∙ ap (λ (c : ℕ). set up c here) z1) z2) e6) (empty_or_right (bit_and f1 a8) (bit_and f2 a9) e);
+      first = subst Empty (ap₂ bit_and e1 e8) (empty_or_left (bit_and f1 a8) (bit_and f2 a9) e);
+      second = subst Empty (ap₂ bit_and (e2 ∙ ap (λ (d : ℕ). get_or (set up (child1_of w) d) (child2_of w) 0) k1) e9) (empty_or_right (bit_and f1 a8) (bit_and f2 a9) e);
     };
-    put = e4 ∙ ap₂ (λ (l : List ℕ) (c : ℕ). set l c here) (e2 ∙ ap (λ (c : ℕ). set up c here) z1) z2;
+    put = ap₂ (λ (d1 d2 : ℕ). set (set up (child1_of w) d1) (child2_of w) d2) k1 k2;
   }
-
-pub mid_long : (up mid : List ℕ) (c v : ℕ) → mid ≡ set up c v → length up ≡ 128 → length mid ≡ 128
-mid_long up mid c v e l = ap length e ∙ length-set up c v ∙ l
 
 -- the whole step
 module _ (t : List ℕ) (a rest w ty i seen : ℕ) (up : List ℕ) where
@@ -82,4 +79,4 @@ module _ (t : List ℕ) (a rest w ty i seen : ℕ) (up : List ℕ) where
         second = o.second;
       }
 
-pub ruleset steps = (rules, own_told, children_told, mid_long, stepped)
+pub ruleset steps = (rules, own_told, children_told, stepped)

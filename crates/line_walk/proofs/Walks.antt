@@ -3,14 +3,16 @@ use mathlib.Core.Path.{◌≡◌, refl, sym, ap, ap₂, ◌∙◌, subst}
 use mathlib.Core.Bool.{Bool, true, false, not}
 use mathlib.Core.List.{List}
 use mathlib.Core.Logic.{◌≢◌, inr}
-use Prim.Native.Nat.{ℕ, ◌+◌, ◌-◌, ◌*◌, ◌/◌, ◌%◌, ◌^◌, ◌≤◌, ◌<◌, zero-le}
+use Prim.Native.Nat.{ℕ, ◌+◌, ◌-◌, ◌*◌, ◌/◌, ◌%◌, ◌^◌, ◌≤◌, ◌<◌}
 use native.Mathlib.Nat.{le_antisymm}
 use native.Mathlib.Omega.{arith}
 use native.Mathlib.Decide.{ℕ_discrete, dec_lt}
 use borrow.Author.Rules.{rules}
 use lib.Dec.{T}
 use lib.Bits.{bit_and, bit_or}
-use lib.ListN.{length, get_or, set, replicate, length-set, get_or-replicate}
+use lib.ListN.{length, get_or, set, replicate, length-set, get_or-replicate, get_or-append}
+use Rattle.std.proofs.Common.{◌++◌, drop, length-append}
+use Rattle.std.proofs.lemmas.List.{length-replicate, drop-replicate, get_or-append_right}
 use lib.Seq.{get_or-set_same, get_or-set_other}
 use Rattle.definitions.specs.Bounded.{◌or◌, ◌and◌, any_below, all_below}
 use Rattle.definitions.specs.Sets.{has}
@@ -56,7 +58,6 @@ pub record SoFar (image : List ℕ) (b n i seen : ℕ) (up : List ℕ) : Type 0 
 
 -- after i lines of any box, where no wrong digit was found
 pub record Walking (image : List ℕ) (k n a r c e f start i bad seen : ℕ) (up : List ℕ) : Type 0 where
-  pub upto : i ≤ n
   pub long : length up ≡ 128
   pub told : Empty bad → (b : ℕ) → LinesGiven image b k n a r c e f start → SoFar image b n i seen up
 
@@ -191,7 +192,6 @@ module _ (image : List ℕ) (k n a r c e f start : ℕ) (fa : a < 2 ^ 64) (fr : 
       subst (λ (t : List ℕ). Stepped t a (2 ^ 64 - 1 - f) w ty i up seen wrong new) q s in
       let y' : bs ≡ bound table w = y ∙ ap (λ (t : List ℕ). bound t w) q in
       record {
-        upto = omega arith;
         long = ap length s'.put ∙ length-set (set up (child1_of w) (handed table up w i)) (child2_of w) (handed table up w i) ∙ length-set up (child1_of w) (handed table up w i) ∙ p.long;
         told = λ d b g.
             subst (λ (bs : ℕ). SoFar image b n (i + 1) (bit_or seen bs) new) (sym y')
@@ -210,7 +210,6 @@ module _ (image : List ℕ) (k n a r c e f start : ℕ) where
 
   pub walk_start : (up : List ℕ) → Fresh n up → LinesThere image k n → Walking image k n a r c e f start 0 0 start up
   walk_start up h there = record {
-    upto = zero-le;
     long = h.long;
     told = λ d b g.
         let count = line-count image b k n g.at in
@@ -226,82 +225,55 @@ module _ (image : List ℕ) (k n a r c e f start : ℕ) where
         };
   }
 
-  pub walk_end : (i bad seen : ℕ) (up : List ℕ) → Walking image k n a r c e f start i bad seen up → n ≤ i → LinesTold image k n a r c e f start bad seen
-  walk_end i bad seen up p l = record {
-    tells = λ z b g.
-        let so = p.told z b g in
-        let count = line-count image b k n g.at in
-        let fits : (j : ℕ) → j < line_count (box_at (model_of image) b) → T (tree_fit (model_of image) b j) = λ j h. so.trees j (omega (arith, count, p.upto)) in
+  pub walk_end : (i bad seen : ℕ) (up : List ℕ) → Walking image k n a r c e f start i bad seen up → i ≤ n → n ≤ i → LinesTold image k n a r c e f start bad seen
+  walk_end i bad seen up p g l = record {
+    tells = λ z b given.
+        let so = p.told z b given in
+        let count = line-count image b k n given.at in
+        let fits : (j : ℕ) → j < line_count (box_at (model_of image) b) → T (tree_fit (model_of image) b j) = λ j h. so.trees j (omega (arith, count)) in
         record {
           lines = λ j h. so.lines j (omega arith);
           trees = λ j h. so.trees j (omega arith);
           reach = λ j h. so.reach fits j (omega arith);
-          before = subst (λ (m : ℕ). SetOf seen (bound_before (model_of image) b m)) (le_antisymm p.upto l) so.before;
+          before = subst (λ (m : ℕ). SetOf seen (bound_before (model_of image) b m)) (le_antisymm g l) so.before;
         };
   }
 
 -- ---- places without marks
 
-pub record Unmarking (n i : ℕ) (up : List ℕ) : Type 0 where
-  pub upto : i ≤ n
-  pub long : length up ≡ 128
-  pub clear : (c : ℕ) → c < i → get_or up c 0 ≡ 0
-  pub rest : (c : ℕ) → i ≤ c → c < 128 → get_or up c 0 ≡ mark
+-- n places are clear, and the rest of 128 have their marks
+abbrev cleared : ℕ → List ℕ
+cleared n = replicate n 0 ++ replicate (128 - n) mark
 
-pub unmark_start : (n : ℕ) (up : List ℕ) → up ≡ replicate 128 mark → Unmarking n 0 up
-unmark_start n up e = record {
-  upto = zero-le;
-  long = ap length e;
-  clear = λ c l. absurd (omega arith);
-  rest = λ c g l. ap (λ (up : List ℕ). get_or up c 0) e ∙ get_or-replicate 128 c mark 0 l;
-}
+module _ (n : ℕ) (few : n ≤ 124) where
+  cleared_low : (c : ℕ) → c < n → get_or (cleared n) c 0 ≡ 0
+  cleared_low c l = get_or-append (replicate n 0) (replicate (128 - n) mark) 0 c (omega (arith, length-replicate {A = ℕ} n 0)) ∙ get_or-replicate n c 0 0 l
 
-pub unmark_turn : (n i : ℕ) (up : List ℕ) → Unmarking n i up → i < n → n ≤ 124 → Unmarking n (i + 1) (set up i 0)
-unmark_turn n i up p l m = record {
-  upto = omega arith;
-  long = length-set up i 0 ∙ p.long;
-  clear = λ c h. pick c h (ℕ_discrete i c);
-  rest = λ c g h. get_or-set_other up i c 0 0 (λ z. absurd (omega arith)) ∙ p.rest c (omega arith) h;
-}
-  where
-    pick : (c : ℕ) → c < i + 1 → Dec (i ≡ c) → get_or (set up i 0) c 0 ≡ 0
-    pick c h (yes z) = subst (λ (c : ℕ). get_or (set up i 0) c 0 ≡ 0) z (get_or-set_same up i 0 0 (omega (arith, p.long)))
-    pick c h (no z) = get_or-set_other up i c 0 0 (λ q. z (sym q)) ∙ p.clear c (omega arith)
+  cleared_high : (c : ℕ) → n ≤ c → c < 128 → get_or (cleared n) c 0 ≡ mark
+  cleared_high c g l =
+      get_or-append_right (replicate n 0) (replicate (128 - n) mark) n c 0 (length-replicate {A = ℕ} n 0) g ∙ get_or-replicate (128 - n) (c - n) mark 0 (omega arith)
 
-pub unmark_end : (n i : ℕ) (up : List ℕ) → Unmarking n i up → n ≤ i → n ≤ 124 → Fresh n (set up 0 mark)
-unmark_end n i up p l m = record {
-  long = length-set up 0 mark ∙ p.long;
-  root = get_or-set_same up 0 mark 0 (omega (arith, p.long));
-  lines = λ c g h. get_or-set_other up 0 c mark 0 (λ z. absurd (omega arith)) ∙ p.clear c (omega arith);
-  rest = λ c g h. pick c g h (ℕ_discrete 0 c);
-}
-  where
-    pick : (c : ℕ) → n ≤ c → c < 128 → Dec (0 ≡ c) → get_or (set up 0 mark) c 0 ≡ mark
-    pick c g h (yes z) = subst (λ (c : ℕ). get_or (set up 0 mark) c 0 ≡ mark) z (get_or-set_same up 0 mark 0 (omega (arith, p.long)))
-    pick c g h (no z) = get_or-set_other up 0 c mark 0 (λ q. z (sym q)) ∙ p.rest c (omega (arith, p.upto)) h
+  cleared_long : length (cleared n) ≡ 128
+  cleared_long = simp (length-append, length-replicate) (omega arith)
 
-pub unmark_long : (n i : ℕ) (up : List ℕ) → Unmarking n i up → length up ≡ 128
-unmark_long n i up p = p.long
+  cleared_fresh : Fresh n (set (cleared n) 0 mark)
+  cleared_fresh = record {
+    long = length-set (cleared n) 0 mark ∙ cleared_long;
+    root = get_or-set_same (cleared n) 0 mark 0 (omega (arith, cleared_long));
+    lines = λ c g h. get_or-set_other (cleared n) 0 c mark 0 (λ z. absurd (omega arith)) ∙ cleared_low c h;
+    rest = λ c g h. pick c g h (ℕ_discrete 0 c);
+  }
+    where
+      pick : (c : ℕ) → n ≤ c → c < 128 → Dec (0 ≡ c) → get_or (set (cleared n) 0 mark) c 0 ≡ mark
+      pick c g h (yes z) = subst (λ (c : ℕ). get_or (set (cleared n) 0 mark) c 0 ≡ mark) z (get_or-set_same (cleared n) 0 mark 0 (omega (arith, cleared_long)))
+      pick c g h (no z) = get_or-set_other (cleared n) 0 c mark 0 (λ q. z (sym q)) ∙ cleared_high c g h
 
-pub walk_long : (image : List ℕ) (k n a r c e f start i bad seen : ℕ) (up : List ℕ) → Walking image k n a r c e f start i bad seen up → length up ≡ 128
-walk_long image k n a r c e f start i bad seen up p = p.long
-
-pub few_lines : (image : List ℕ) (k n : ℕ) → LinesThere image k n → n ≤ 124
-few_lines image k n h = h.few
-
-pub table_long : (a r c e f : ℕ) (t : List ℕ) → t ≡ op_table a r c e f → length t ≡ 144
-table_long a r c e f t q = ap length q
-
-pub line_few : (image : List ℕ) (k n i : ℕ) → LinesThere image k n → i < n → i < 128
-line_few image k n i h l = omega (arith, h.few)
+  pub unmarked : (up part : List ℕ) → up ≡ replicate 128 mark → part ≡ replicate n 0 → Fresh n (set (part ++ drop n up) 0 mark)
+  unmarked up part e q =
+      let same : part ++ drop n up ≡ cleared n = ap₂ ◌++◌ q (ap (drop n) e ∙ drop-replicate n 128 mark) in
+      subst (λ (xs : List ℕ). Fresh n (set xs 0 mark)) (sym same) cleared_fresh
 
 -- ---- places
-
-pub next_other : (at left : ℕ) → left ≡ 1 → Next at left (at + 32) 31
-next_other at left e = record { same = λ n. absurd (n e); other = λ _. (refl, refl) }
-
-pub next-same : (at left : ℕ) → (left ≡ 1 → ⊥) → Next at left (at + 16) (left - 1)
-next-same at left n = record { same = λ _. (refl, refl); other = λ e. absurd (n e) }
 
 -- where line i stands
 pub record At (k i at left : ℕ) : Type 0 where
@@ -324,12 +296,6 @@ at_room image k n i at left p h l = omega (arith, p.at-is, h.there i l)
 pub at-room_2 : (image : List ℕ) (k n i at left : ℕ) → At k i at left → LinesThere image k n → i < n → at + 8 + 8 ≤ length image
 at-room_2 image k n i at left p h l = omega (arith, p.at-is, h.there i l)
 
-pub at_few : (image : List ℕ) (k n i at left : ℕ) → At k i at left → LinesThere image k n → i < n → k < 100 → at < 0x100000000
-at_few image k n i at left p h l few = omega (arith, p.at-is, h.few)
-
-pub left_some : (k i at left : ℕ) → At k i at left → 0 < left
-left_some k i at left p = omega (arith, p.left_is)
-
 pub word_first : (image : List ℕ) (k i at left w : ℕ) → At k i at left → w ≡ word_at image at → w ≡ word_at image (512 * (k + 1) + (8 + 16 * (i + i / 31)))
 word_first image k i at left w p e = e ∙ ap (word_at image) p.at-is
 
@@ -344,4 +310,4 @@ pub walk_next : (image : List ℕ) (k n a r c e f start : ℕ) → a < 2 ^ 64 �
 walk_next image k n a r c e f start fa fr fc fe ff i bad seen up p l there at left q w ty ew et t wrong bs new z s y =
     walk_turn image k n a r c e f start fa fr fc fe ff i bad seen up p l there w ty s.first s.second (word_first image k i at left w q ew) (word-second image k i at left ty q et) t wrong bs new z s y
 
-pub ruleset walks = (rules, next_other, next-same, at-start, at_next, at_room, at-room_2, at_few, left_some, walk_next, line_few, unmark_start, unmark_turn, unmark_end, unmark_long, walk_start, walk_end, walk_long, few_lines, table_long)
+pub ruleset walks = (rules, at-start, at_next, at_room, at-room_2, walk_start, walk_next, walk_end)

@@ -5,22 +5,11 @@ ghost use Rattle.records.specs.Places.{LinesThere};
 ghost use Rattle.line_table.specs.Table.{op_table};
 ghost use Rattle.line_walk.specs.Told.{OwnTold, ChildrenTold, Stepped, Fresh, Next, LinesTold};
 
-use line_table::{at, bound_names, typed, used_names, wrong_digits};
-
-// v put at place c; the word that stood there.
-fn put(up: &mut [u64; 128], c: usize, v: u64) -> u64
-    requires { (length up.old ≡ 128) × (c < 128) }
-    ensures old { result ≡ get_or up.old c 0 }
-    ensures new { up.new ≡ set up.old c v }
-{
-    let old = up[c];
-    up[c] = v;
-    old
-}
+use line_table::{Kinds, at, bound_names, typed, used_names, wrong_digits};
+use std::mem::replace;
 
 // Wrong digits of a line by itself, of its type, of where its names reach, of what is bound twice, and of its mark; v: what stands at its place.
 fn own_wrong(t: &[u64; 144], all: u64, rest: u64, w: u64, names: u64, v: u64, seen: u64) -> u64
-    requires { length t.now ≡ 144 }
     ensures { OwnTold t.now all rest w names v seen result }
 {
     let line = wrong_digits(t, w);
@@ -33,11 +22,10 @@ fn own_wrong(t: &[u64; 144], all: u64, rest: u64, w: u64, names: u64, v: u64, se
 
 // The children of a line are handed what is bound above them; wrong digits where they were marked before.
 fn children_wrong(t: &[u64; 144], w: u64, here: u64, up: &mut [u64; 128]) -> u64
-    requires { (length t.now ≡ 144) × (length up.old ≡ 128) }
     ensures { ChildrenTold t.now w here up.old result up.new }
 {
-    let first = put(up, (w / 0x1_0000_0000 % 128) as usize, here);
-    let second = put(up, (w / 0x1_0000_0000_0000 % 128) as usize, here);
+    let first = replace(&mut up[(w / 0x1_0000_0000 % 128) as usize], here);
+    let second = replace(&mut up[(w / 0x1_0000_0000_0000 % 128) as usize], here);
     (first & at(t, 7, w)) | (second & at(t, 8, w))
 }
 
@@ -52,7 +40,7 @@ fn step(
     seen: u64,
     up: &mut [u64; 128],
 ) -> u64
-    requires { (length t.now ≡ 144) × (length up.old ≡ 128) × (i < 128) }
+    requires { i < 128 }
     ensures { Stepped t.now all rest w names i up.old seen result up.new }
 {
     let v = up[i];
@@ -71,7 +59,8 @@ pub struct Place {
 
 // The place of the next line: a block of 31 lines has 16 bytes besides.
 fn next(p: Place) -> Place
-    requires { (p.at < 0x100000000) × (0 < p.left) }
+    requires few { p.at < 0x100000000 }
+    requires some { 0 < p.left }
     ensures { Next p.at p.left result.at result.left }
 {
     if p.left == 1 {
@@ -87,40 +76,37 @@ fn next(p: Place) -> Place
     }
 }
 
+// What a walk over a box's records finds: wrong digits, and the names that the boxes up to its end bind, or have as subjects.
 #[derive(Clone, Copy)]
 pub struct Walked {
     pub bad: u64,
-    pub bound: u64,
+    pub names: u64,
 }
 
 // The places of lines 1 to n lose their marks.
 fn unmark(up: &mut [u64; 128], n: usize)
-    requires { (up.old ≡ replicate 128 0x8000000000000000) × (n ≤ 124) }
+    requires marked { up.old ≡ replicate 128 0x8000000000000000 }
+    requires few { n ≤ 124 }
     ensures { Fresh n up.new }
 {
-    let mut i = 0;
-    while i < n {
-        up[i] = 0;
-        i += 1;
-    }
+    up[..n].fill(0);
     up[0] = 0x8000_0000_0000_0000;
 }
 
 // The n lines after block k, of a box before which others bind a set. Where no wrong digit is found every line fits.
+#[tactic(auto, using(crate::proofs::Walks::walks))]
 pub fn walk_lines(
     image: &[u8],
     t: &[u64; 144],
-    all: u64,
-    restricted: u64,
-    received: u64,
-    exposed: u64,
-    free: u64,
+    kinds: Kinds,
     k: usize,
     n: usize,
     start: u64,
 ) -> Walked
-    requires { LinesThere image.now k n × (k < 100) × (t.now ≡ op_table all restricted received exposed free) }
-    ensures { LinesTold image.now k n all restricted received exposed free start result.bad result.bound }
+    requires there { LinesThere image.now k n }
+    requires block { k < 100 }
+    requires table { t.now ≡ op_table kinds.listed kinds.restricted kinds.received kinds.exposed kinds.free }
+    ensures { LinesTold image.now k n kinds.listed kinds.restricted kinds.received kinds.exposed kinds.free start result.bad result.names }
 {
     let mut up = [0x8000_0000_0000_0000u64; 128];
     unmark(&mut up, n);
@@ -130,15 +116,12 @@ pub fn walk_lines(
         at: 512 * (k + 1) + 8,
         left: 31,
     };
-    let mut i = 0;
-    while i < n {
+    for i in 0..n {
         let w = words::word(image, p.at);
         let names = words::word(image, p.at + 8);
-        let wrong = step(t, all, !free, w, names, i, seen, &mut up);
-        bad = bad | wrong;
-        seen = seen | bound_names(t, w);
+        bad |= step(t, kinds.listed, !kinds.free, w, names, i, seen, &mut up);
+        seen |= bound_names(t, w);
         p = next(p);
-        i += 1;
     }
-    Walked { bad, bound: seen }
+    Walked { bad, names: seen }
 }

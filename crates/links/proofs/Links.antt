@@ -1,21 +1,23 @@
 -- The union of a box's types; and boxes that are linked, one after another. Assumes nothing.
 use mathlib.Core.Path.{◌≡◌, sym, ap, ◌∙◌}
-use mathlib.Core.Bool.{Bool, true, not}
+use mathlib.Core.Bool.{Bool, true, false, not}
 use mathlib.Core.Logic.{◌⊎◌, inl, inr, ⊎_elim}
 use mathlib.Core.List.{List}
 use Prim.Native.Nat.{ℕ, ◌^◌, ◌≤◌, ◌<◌}
 use borrow.Author.Rules.{rules}
+use native.Mathlib.Omega.{arith}
 use lib.Dec.{T}
 use Rattle.definitions.specs.Bounded.{◌or◌, ◌implies◌, ◌isnt◌}
 use Rattle.definitions.specs.Sets.{has, for_some, meets}
 use Rattle.definitions.specs.Estimate.{Estimate}
-use Rattle.definitions.specs.ShutOff.{linked}
+use Rattle.definitions.specs.ShutOff.{linked, shut_off}
 use Rattle.definitions.proofs.Bounded.{or_iff, isnt_iff, true_of, of_true, false_of, not-false, same_test}
 use Rattle.definitions.proofs.Sets.{or_assoc, or-false, has-none, for_some_cong, meets_iff, meets_comm}
-use Rattle.definitions.proofs.Loops.{fails, holds, passing_start, passing_turn, passing_stop, passing_end}
-use Rattle.sets.specs.Lowest.{lowest_of, WithoutLowest}
-use Rattle.sets.proofs.Walk.{Left, left_start, left_turn, walk_less, split_some, none-some}
-use Rattle.clauses.proofs.Members.{UnionOf, left_62, left_64, names_shown}
+use Rattle.definitions.proofs.Loops.{Passing, fails, holds, passing_start, passing_turn, passing_stop, passing_end}
+use Rattle.sets.specs.Names.{NamesOnly}
+use Rattle.sets.specs.Ascending.{LowestOf}
+use Rattle.sets.proofs.Walk.{Left, left_start, left_turn, split_some, none-some}
+use Rattle.clauses.proofs.Members.{UnionOf, left_62, names_shown}
 use Rattle.clauses.proofs.Rows.{Rows, rows_start, rows_turn, rows_end, rows_size}
 use Rattle.links.specs.Types.{Types, TypeTable}
 
@@ -47,18 +49,21 @@ module _ (e : Estimate) (k s : ℕ) where
   }
 
   module _ (left v : ℕ) (g : Typing e k s left v) where
-    pub typing_turn : (n t u y : ℕ) → (left ≡ 0 → ⊥) → n ≡ lowest_of left → WithoutLowest left t → UnionOf u v y → y ≡ e.eps k n → Typing e k s t u
-    typing_turn n t u y z f r j ey = record {
-      there = left_turn s left t g.there z r;
+    pub typing_turn : (n t u y : ℕ) → LowestOf left n t → UnionOf u v y → y ≡ e.eps k n → Typing e k s t u
+    typing_turn n t u y d j ey = let z : left ≡ 0 → ⊥ = λ q. (let p = d.some_left in omega arith) in record {
+      there = left_turn s left t g.there z d.others;
       same = λ x. ap (λ (b : Bool). b or for_some t (λ c. meets x (e.eps k c))) (meets_union u v y j x ∙ ap (λ (i : ℕ). meets x v or meets x i) ey)
           ∙ or_assoc (meets x v) (meets x (e.eps k n)) (for_some t (λ c. meets x (e.eps k c)))
-          ∙ ap (λ (b : Bool). meets x v or b) (sym (split_some (λ c. meets x (e.eps k c)) left t n g.there.fit z f r)) ∙ g.same x;
+          ∙ ap (λ (b : Bool). meets x v or b) (sym (split_some (λ c. meets x (e.eps k c)) left t n g.there.fit z d.lowest d.others)) ∙ g.same x;
     }
 
     pub typing_end : left ≡ 0 → Types e k s v
     typing_end z = record {
       same = λ x. sym (or-false (meets x v)) ∙ ap (λ (b : Bool). meets x v or b) (sym (none-some (λ c. meets x (e.eps k c)) left z)) ∙ g.same x;
     }
+
+pub typing_62 : (e : Estimate) (k s left v n t : ℕ) → NamesOnly s → Typing e k s left v → LowestOf left n t → n < 62
+typing_62 e k s left v n t f g d = left_62 s left n t f g.there d
 
 module _ (e : Estimate) (h k : ℕ) where
   pub types_as : (s u v : ℕ) → Types e k s v → s ≡ u → Types e k u v
@@ -87,6 +92,18 @@ module _ (h k : ℕ) (c : Bool) where
   unfolding ◌implies◌
   other_box x y f e q = ap not e ∙ sym q ∙ sym (ap (λ (z : Bool). z implies c) (true_of (k isnt h) ((isnt_iff k h).1 f)))
 
-pub ruleset unions = (rules, walk_less, left_62, left_64, names_shown, typing_start, typing_turn, typing_end, types_as, linked_as, rows_start, rows_turn, rows_size, types_end)
+-- a box that is linked, and the end of the walk over the boxes
+module _ (e : Estimate) (boxes h k : ℕ) where
+  pub shut_stop : (b : Bool) → k < boxes → b ≡ (k isnt h implies not (linked e h k)) → b ≡ false → false ≡ shut_off e boxes h
+  unfolding shut_off
+  shut_stop b = passing_stop boxes (λ j. j isnt h implies not (linked e h j)) k b
 
-pub ruleset apart = (rules, fails, holds, passing_start, passing_turn, passing_stop, passing_end, same_box, other_box)
+  pub shut_end : Passing (λ j. j isnt h implies not (linked e h j)) k → boxes ≤ k → true ≡ shut_off e boxes h
+  unfolding shut_off
+  shut_end = passing_end boxes (λ j. j isnt h implies not (linked e h j)) k
+
+pub ruleset gathers = (rules, typing_end)
+
+pub ruleset unions = (rules, names_shown, types_as, linked_as, rows_start, rows_turn, rows_size, types_end)
+
+pub ruleset apart = (rules, fails, holds, passing_start, passing_turn, shut_stop, shut_end, same_box, other_box)

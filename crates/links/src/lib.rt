@@ -8,75 +8,79 @@ ghost use Rattle.sets.specs.Names.{NamesOnly};
 ghost use Rattle.clauses.specs.Known.{EstimateOfNames};
 ghost use Rattle.links.specs.Types.{Types, TypeTable};
 
+use sets::Ascending;
+
 // The union of box k's types on the names of s.
+#[tactic(auto, using(crate::proofs::Links::gathers))]
 pub fn types_on(estimate: &[u8], k: usize, s: u64) -> u64
-    requires { (512 * (2 + 2 * k) ≤ length estimate.now) × NamesOnly s }
+    requires there { 512 * (2 + 2 * k) ≤ length estimate.now }
+    requires names { NamesOnly s }
     ensures { Types (estimate_of estimate.now) k s result }
 {
     let mut v: u64 = 0;
-    let mut left = s;
-    while left != 0 {
-        let c = sets::lowest(left);
+    for c in Ascending(s) {
         v = sets::union(v, estimate::eps(estimate, k, c));
-        left = sets::without_lowest(left);
     }
     v
 }
 
 // The union of box k's types on its shown names.
+#[tactic(auto, using(crate::proofs::Links::unions))]
 fn types(estimate: &[u8], boxes: usize, k: usize) -> u64
-    requires { EstimateOfNames estimate.now boxes × (k < boxes) }
+    requires names { EstimateOfNames estimate.now boxes }
+    requires inside { k < boxes }
     ensures { Types (estimate_of estimate.now) k ((estimate_of estimate.now).shown k) result }
 {
     types_on(estimate, k, estimate::shown(estimate, k))
 }
 
 // The union of each box's types on its shown names.
+#[tactic(auto, using(crate::proofs::Links::unions))]
 pub fn all_types(estimate: &[u8], boxes: usize) -> [u64; 8]
     requires { EstimateOfNames estimate.now boxes }
     ensures { TypeTable (estimate_of estimate.now) boxes result }
 {
     let mut t: [u64; 8] = [0; 8];
-    let mut i = 0;
-    while i < boxes {
+    for i in 0..boxes {
         t[i] = types(estimate, boxes, i);
-        i += 1;
     }
     t
 }
 
 // Boxes h and k are linked; x is the union of box h's types.
+#[tactic(auto, using(crate::proofs::Links::unions))]
 fn linked(estimate: &[u8], boxes: usize, h: usize, x: u64, k: usize) -> bool
-    requires { EstimateOfNames estimate.now boxes × Types (estimate_of estimate.now) h ((estimate_of estimate.now).shown h) x × (k < boxes) }
+    requires names { EstimateOfNames estimate.now boxes }
+    requires types { Types (estimate_of estimate.now) h ((estimate_of estimate.now).shown h) x }
+    requires inside { k < boxes }
     ensures { result ≡ shut.linked (estimate_of estimate.now) h k }
 {
     sets::intersects(types(estimate, boxes, k), x)
 }
 
 // Box k is box h, or not linked to it; x is the union of box h's types.
+#[tactic(auto, using(crate::proofs::Links::apart))]
 fn same_or_apart(estimate: &[u8], boxes: usize, h: usize, x: u64, k: usize) -> bool
-    requires { EstimateOfNames estimate.now boxes × Types (estimate_of estimate.now) h ((estimate_of estimate.now).shown h) x × (k < boxes) }
+    requires names { EstimateOfNames estimate.now boxes }
+    requires types { Types (estimate_of estimate.now) h ((estimate_of estimate.now).shown h) x }
+    requires inside { k < boxes }
     ensures { result ≡ (k isnt h implies not (shut.linked (estimate_of estimate.now) h k)) }
 {
-    if k == h {
-        true
-    } else {
-        !linked(estimate, boxes, h, x, k)
-    }
+    k == h || !linked(estimate, boxes, h, x, k)
 }
 
 // Box h is shut off: it is linked to no other box.
+#[tactic(auto, using(crate::proofs::Links::apart))]
 pub fn shut_off(estimate: &[u8], boxes: usize, h: usize) -> bool
-    requires { EstimateOfNames estimate.now boxes × (h < boxes) }
+    requires names { EstimateOfNames estimate.now boxes }
+    requires inside { h < boxes }
     ensures { result ≡ shut.shut_off (estimate_of estimate.now) boxes h }
 {
     let x = types(estimate, boxes, h);
-    let mut k = 0;
-    while k < boxes {
+    for k in 0..boxes {
         if !same_or_apart(estimate, boxes, h, x, k) {
             return false;
         }
-        k += 1;
     }
     true
 }

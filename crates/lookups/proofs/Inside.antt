@@ -1,10 +1,9 @@
 -- A move inside a box by the number of its kind. Assumes nothing.
-use mathlib.Core.Path.{◌≡◌, refl, ap}
-use mathlib.Core.Logic.{◌≢◌}
+use mathlib.Core.Path.{◌≡◌, ap}
 use mathlib.Core.List.{List}
-use Prim.Native.Nat.{ℕ, zero, suc}
+use Prim.Native.Nat.{ℕ}
 use Rattle.definitions.specs.Model.{Box, hide, unhide}
-use Rattle.definitions.specs.Moves.{kind_of_move, refused, drop_move, spread_move, new_move, copy_move, expose_move, turn_move, intra_move, inside_move}
+use Rattle.definitions.specs.Moves.{Kind, unknown, kind_of_move, refused, drop_move, spread_move, new_move, copy_move, expose_move, turn_move, intra_move, inside_move}
 use Rattle.lookups.specs.Inside.{inside_as, inside_outcome}
 
 module _ (kinds : List ℕ) (x : Box) (r : List ℕ) (kind t u : ℕ) where
@@ -43,23 +42,11 @@ module _ (kinds : List ℕ) (x : Box) (r : List ℕ) (kind t u : ℕ) where
   unfolding inside_outcome kind_of_move inside_move
   is_intra e = like 8 e
 
--- a kind that is none of these
-none_of : (kinds : List ℕ) (x : Box) (r : List ℕ) (t u k : ℕ) → k ≢ 1 → k ≢ 2 → k ≢ 3 → k ≢ 4 → k ≢ 5 → k ≢ 6 → k ≢ 7 → k ≢ 8
-    → inside_as kinds x r (kind_of_move k) t u ≡ refused 12
-unfolding kind_of_move
-none_of kinds x r t u zero n1 n2 n3 n4 n5 n6 n7 n8 = refl
-none_of kinds x r t u (suc zero) n1 n2 n3 n4 n5 n6 n7 n8 = absurd (n1 refl)
-none_of kinds x r t u (suc (suc zero)) n1 n2 n3 n4 n5 n6 n7 n8 = absurd (n2 refl)
-none_of kinds x r t u (suc (suc (suc zero))) n1 n2 n3 n4 n5 n6 n7 n8 = absurd (n3 refl)
-none_of kinds x r t u (suc (suc (suc (suc zero)))) n1 n2 n3 n4 n5 n6 n7 n8 = absurd (n4 refl)
-none_of kinds x r t u (suc (suc (suc (suc (suc zero))))) n1 n2 n3 n4 n5 n6 n7 n8 = absurd (n5 refl)
-none_of kinds x r t u (suc (suc (suc (suc (suc (suc zero)))))) n1 n2 n3 n4 n5 n6 n7 n8 = absurd (n6 refl)
-none_of kinds x r t u (suc (suc (suc (suc (suc (suc (suc zero))))))) n1 n2 n3 n4 n5 n6 n7 n8 = absurd (n7 refl)
-none_of kinds x r t u (suc (suc (suc (suc (suc (suc (suc (suc zero)))))))) n1 n2 n3 n4 n5 n6 n7 n8 = absurd (n8 refl)
-none_of kinds x r t u (suc (suc (suc (suc (suc (suc (suc (suc (suc zero))))))))) n1 n2 n3 n4 n5 n6 n7 n8 = refl
-none_of kinds x r t u (suc (suc (suc (suc (suc (suc (suc (suc (suc (suc n)))))))))) n1 n2 n3 n4 n5 n6 n7 n8 = refl
+  -- inter, and a number that is no kind
+  pub is_inter : kind ≡ 9 → inside_outcome kinds x r kind t u ≡ refused 12
+  unfolding inside_outcome kind_of_move
+  is_inter e = like 9 e
 
-pub is_none : (kinds : List ℕ) (x : Box) (r : List ℕ) (kind t u : ℕ) → kind ≢ 1 → kind ≢ 2 → kind ≢ 3 → kind ≢ 4 → kind ≢ 5 → kind ≢ 6 → kind ≢ 7
-    → kind ≢ 8 → inside_outcome kinds x r kind t u ≡ refused 12
-unfolding inside_outcome
-is_none kinds x r kind t u n1 n2 n3 n4 n5 n6 n7 n8 = none_of kinds x r t u kind n1 n2 n3 n4 n5 n6 n7 n8
+  pub is-unknown : kind_of_move kind ≡ unknown → inside_outcome kinds x r kind t u ≡ refused 12
+  unfolding inside_outcome
+  is-unknown e = ap (λ (k : Kind). inside_as kinds x r k t u) e

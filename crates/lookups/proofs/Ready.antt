@@ -1,5 +1,5 @@
 -- What is known of a box record that is in order, in a model that is read. Assumes nothing.
-use mathlib.Core.Path.{◌≡◌, ap, subst, sym, ◌∙◌}
+use mathlib.Core.Path.{◌≡◌, ap, sym, ◌∙◌}
 use mathlib.Core.List.{List}
 use mathlib.Core.Option.{none}
 use Prim.Native.Nat.{ℕ, ◌+◌, ◌*◌, ◌/◌, ◌%◌, ◌≤◌, ◌<◌}
@@ -7,7 +7,7 @@ use native.Mathlib.Omega.{arith}
 use native.Mathlib.Decide.{ℕ_discrete}
 use lib.ListN.{length}
 use Rattle.definitions.specs.Words.{block_of}
-use Rattle.definitions.specs.Model.{Line, Box, Model, box_at, line_at, line_count, box_count}
+use Rattle.definitions.specs.Model.{Line, Box, Model, box_at, line_at, box_count}
 use Rattle.definitions.specs.Image.{line_record, name_count, boxes_of, sites_block, lines_of, box_of_image, model_of}
 use Rattle.definitions.specs.ReadModel.{read_model}
 use Rattle.definitions.specs.Record.{threads, sites, thread, line}
@@ -16,12 +16,9 @@ use Rattle.definitions.proofs.Image.{model_count, model_box, model_kinds, model_
 use Rattle.definitions.proofs.Valid.{Valid, ValidLine}
 use Rattle.definitions.proofs.ReadModel.{Blocks, read_iff, valid_image, lines_there}
 use Rattle.definitions.proofs.StateRules.{ThreadFits, thread_iff, RecordFits, record_iff}
-use Rattle.lookups.specs.Ready.{byte_of, PlacesOf, BoxReady}
+use Rattle.lookups.specs.Ready.{byte_of, BoxReady}
 
 -- names of a model that is read
-pub read_valid : (image : List ℕ) → read_model image ≡ none → Valid (model_of image)
-read_valid image e = valid_image image e
-
 pub read_blocks : (image : List ℕ) → read_model image ≡ none → Blocks image
 read_blocks image e = ((read_iff image).0 e).blocks
 

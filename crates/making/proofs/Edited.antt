@@ -7,7 +7,7 @@ use native.Mathlib.Omega.{arith}
 use lib.ListN.{length, set, length-set}
 use lib.Seq.{set-set, set_comm, get_or-set_other}
 use Rattle.definitions.specs.Slots.{word, put, slot, put_slot, push_slot}
-use Rattle.definitions.specs.Record.{threads, sites, thread, site, set_stamp, put_thread, push_site, goto, bind}
+use Rattle.definitions.specs.Record.{sites, thread, site, set_stamp, put_thread, push_site, goto, bind}
 use Rattle.definitions.proofs.Arrays.{slots_frame}
 use Rattle.definitions.proofs.Slots.{length-put, word-put-before, part-put_other, part-set_other, put-set, put-apart, slot_length, length_put_slot, slot_put-same, slot_put_other, word_put_slot, slot_set_other, put-put}
 

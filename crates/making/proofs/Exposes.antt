@@ -1,8 +1,7 @@
 -- A site written behind the others: its type's held names, its subject, the count. Assumes nothing.
-use mathlib.Core.Path.{◌≡◌, refl, ap, subst, sym, ◌∙◌}
+use mathlib.Core.Path.{◌≡◌, ap, sym, ◌∙◌}
 use mathlib.Core.Logic.{◌⊎◌, inl, inr, ◌≢◌}
-use mathlib.Core.Bool.{Bool}
-use mathlib.Core.List.{List, [], ◌∷◌, ◌++◌, map}
+use mathlib.Core.List.{List, ◌∷◌, ◌++◌, map}
 use Prim.Native.Nat.{ℕ, zero, suc, ◌+◌, ◌*◌, ◌^◌, ◌≤◌, ◌<◌}
 use native.Mathlib.Nat.{le_of_suc-le-suc}
 use native.Mathlib.Omega.{arith}
@@ -10,16 +9,16 @@ use borrow.Author.Rules.{rules}
 use lib.Dec.{T}
 use lib.ListN.{length, take, set, length-set}
 use lib.Seq.{get_or-set_same, get_or-set_other}
-use Rattle.definitions.specs.Bounded.{◌and◌, ◌isnt◌}
+use Rattle.definitions.specs.Bounded.{◌isnt◌}
 use Rattle.definitions.specs.Sets.{has, members}
 use Rattle.definitions.specs.Slots.{word, zeros, part, put, slot, put_slot, push_slot}
 use Rattle.definitions.specs.Image.{name_count, model_of}
-use Rattle.definitions.specs.Record.{sites, site, thread, push_site}
+use Rattle.definitions.specs.Record.{sites, thread, push_site}
 use Rattle.definitions.specs.Start.{ascending, type_words}
 use Rattle.definitions.specs.Moves.{value_in}
 use Rattle.definitions.proofs.Bounded.{and_iff}
 use Rattle.definitions.proofs.Slots.{length-zeros, word-zeros, take-zeros, length-put, word-put-before, word-put-after, word-put_in, part-is, part-put-same, part-put_other, put_is, put-part, put-put, word_slot, slot_set_other}
-use Rattle.definitions.proofs.TypeWords.{All, all_map, ascending_all, ascending_ascends, members_all, length-type_words}
+use Rattle.definitions.proofs.TypeWords.{all_map, ascending_all, ascending_ascends, members_all, length-type_words}
 use Rattle.sets.specs.Lowest.{lowest_of, WithoutLowest}
 use Rattle.sets.proofs.Members.{members-none, members-first}
 use Rattle.sets.proofs.Walk.{lowest_in, lowest-below}
@@ -59,7 +58,7 @@ module _ {image r : List ℕ} {t names at : ℕ} (k : NamesHeld image r t names)
   pub typed_place : at + 8 ≤ 1139
   typed_place = omega (arith, room.before)
 
-  module _ (fit : names < 2 ^ 64) (some : names ≡ 0 → ⊥) (n rest : ℕ) (w : WithoutLowest names rest) where
+  module _ (fit : names < 2 ^ 64) (some : 0 < names) (n rest : ℕ) (w : WithoutLowest names rest) where
     within : (i : ℕ) → T (has rest i) → T (has names i)
     within i u = ((and_iff (has names i) (lowest_of names isnt i)).0 (rw (w.members i) at u)).0
 
@@ -80,10 +79,6 @@ module _ {image r : List ℕ} {t names at : ℕ} (k : NamesHeld image r t names)
       unfolding x
       eight = length-type_words (value_in (model_of image).kinds (thread r t)) rest
 
-      pub typed_long : length r1 ≡ 1139
-      unfolding x
-      typed_long = ap length f ∙ length-put r at x (omega (arith, eight, k.long, room.before)) ∙ k.long
-
       same-thread : thread r1 t ≡ thread r t
       unfolding x slot
       same-thread =
@@ -92,7 +87,7 @@ module _ {image r : List ℕ} {t names at : ℕ} (k : NamesHeld image r t names)
 
       module _ (e : n ≡ lowest_of names) where
         pub typed_listed : n < name_count image
-        typed_listed = k.listed n (lowest-below names n fit some e) (lowest_in names n fit some e)
+        typed_listed = k.listed n (lowest-below names n fit (λ z. omega arith) e) (lowest_in names n fit (λ z. omega arith) e)
 
         pub typed_left : (v : ℕ) → v ≡ value_in (model_of image).kinds (thread r1 t) n → (r2 : List ℕ) → r2 ≡ put r1 at (inserted v (part r1 at 8))
             → r2 ≡ put r at (type_words (value_in (model_of image).kinds (thread r t)) names)
@@ -100,14 +95,14 @@ module _ {image r : List ℕ} {t names at : ℕ} (k : NamesHeld image r t names)
         typed_left v g r2 p =
             let value : v ≡ value_in (model_of image).kinds (thread r t) n = g ∙ ap (λ (y : List ℕ). value_in (model_of image).kinds y n) same-thread in
             let words : part r1 at 8 ≡ x = ap (λ (y : List ℕ). part y at 8) f ∙ part-put-same r at x 8 eight (omega (arith, k.long, room.before)) in
-            let whole = type_more (value_in (model_of image).kinds (thread r t)) names rest n fit some e w k.given in
+            let whole = type_more (value_in (model_of image).kinds (thread r t)) names rest n fit (λ z. omega arith) e w k.given in
             p ∙ ap (λ (y : List ℕ). put r1 at (inserted v y)) words ∙ ap (λ (i : ℕ). put r1 at (inserted i x)) value
             ∙ ap (put r1 at) whole ∙ ap (λ (y : List ℕ). put y at (type_words (value_in (model_of image).kinds (thread r t)) names)) f
             ∙ put-put r at x (type_words (value_in (model_of image).kinds (thread r t)) names)
             (eight ∙ sym (length-type_words (value_in (model_of image).kinds (thread r t)) names))
             (omega (arith, length-type_words (value_in (model_of image).kinds (thread r t)) names, k.long, room.before))
 
-pub ruleset types = (rules, typed_none, typed_place, typed_rest, typed_long, typed_listed, typed_left)
+pub ruleset types = (rules, typed_none, typed_place, typed_rest, typed_listed, typed_left)
 
 -- ---- a site behind the others
 
@@ -188,12 +183,8 @@ module _ {image r : List ℕ} {t names : ℕ} (k : NamesHeld image r t names) (r
             ap (word (put r1 (3 + 10 * n + 2) w)) (let z : 3 + 10 * n + suc (suc j) ≡ 3 + 10 * n + 2 + j = omega arith in z)
             ∙ word-put_in r1 (3 + 10 * n + 2) w fits j (le_of_suc-le-suc (le_of_suc-le-suc h))
 
-    pub site_long : length r2 ≡ 1139
-    unfolding r1
-    site_long = ap length typed ∙ length-put r1 (3 + 10 * n + 2) w fits ∙ size
-
     pub site_left : set r2 2 (n + 1) ≡ push_site r (v ∷ 0 ∷ type_words (value_in (model_of image).kinds (thread r t)) names)
     unfolding push_slot put_slot w
     site_left = ap (λ (y : List ℕ). set y 2 (n + 1)) (typed ∙ written) ∙ ap (λ (i : ℕ). set (put r (3 + 10 * i) (v ∷ 0 ∷ w)) 2 (i + 1)) e
 
-pub ruleset exposed = (rules, site_names, site-room, site_long, site_left)
+pub ruleset exposed = (rules, site_names, site-room, site_left)

@@ -11,26 +11,29 @@ use lookups::value;
 use state::{Held, edits};
 
 // The held names of a type's names in thread t, ascending without repeats, into eight words that are zero: the lowest name is put in last.
-fn type_names(model: &[u8], r: &mut [u32], t: usize, at: usize, names: u64)
-    requires { NamesHeld model.now r.old t names × TypeRoom r.old at }
+#[tactic(auto, using(crate::proofs::Exposes::types))]
+fn type_names(model: &[u8], r: &mut [u32; 1139], t: usize, at: usize, names: u64)
+    requires names { NamesHeld model.now r.old t names }
+    requires room { TypeRoom r.old at }
     ensures { r.new ≡ put r.old at (type_words (moves.value_in (model_of model.now).kinds (words.thread r.old t)) names) }
 {
-    if names == 0 {
-        return;
+    if let Some(n) = sets::lowest(names) {
+        type_names(model, r, t, at, sets::without_lowest(names));
+        let v = value(model, r, t, n);
+        edits::insert_name(r, at, v);
     }
-    type_names(model, &mut *r, t, at, sets::without_lowest(names));
-    let v = value(model, &*r, t, sets::lowest(names));
-    edits::insert_name(&mut *r, at, v);
 }
 
 // One site more, shown, with the type's held names in thread t.
-pub fn append_site(model: &[u8], r: &mut [u32], t: usize, subject: Held, names: u64)
-    requires { NamesHeld model.now r.old t names × SiteRoom r.old }
+#[tactic(auto, using(crate::proofs::Exposes::exposed))]
+pub fn append_site(model: &[u8], r: &mut [u32; 1139], t: usize, subject: Held, names: u64)
+    requires names { NamesHeld model.now r.old t names }
+    requires room { SiteRoom r.old }
     ensures { r.new ≡ words.push_site r.old (subject.0 ∷ 0 ∷ type_words (moves.value_in (model_of model.now).kinds (words.thread r.old t)) names) }
 {
-    let n = state::sites(&*r);
+    let n = state::sites(r);
     let at = 3 + 10 * n;
     r[at] = subject.0;
-    type_names(model, &mut *r, t, at + 2, names);
+    type_names(model, r, t, at + 2, names);
     r[2] = n as u32 + 1;
 }

@@ -3,4 +3,3 @@
 pub mod ends;
 pub mod expose;
 pub mod inside;
-mod lines;

@@ -1,2 +1,2 @@
 pub mod LayoutOf
-pub mod Walks
+pub mod Reads

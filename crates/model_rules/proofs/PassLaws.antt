@@ -2,12 +2,12 @@
 use mathlib.Core.Path.{◌≡◌, refl, sym, ap, ap₂, ◌∙◌}
 use mathlib.Core.Bool.{Bool, false}
 use mathlib.Core.List.{List}
-use mathlib.Core.Option.{Option, none}
+use mathlib.Core.Option.{Option, none, some}
 use Prim.Native.Nat.{ℕ, ◌+◌, ◌≤◌, ◌<◌}
 use native.Mathlib.Omega.{arith}
 use borrow.Author.Rules.{rules}
 use lib.ListN.{get_or}
-use Rattle.definitions.specs.Bounded.{◌or◌, ◌is◌, any_below, or_else}
+use Rattle.definitions.specs.Bounded.{◌or◌, ◌is◌, any_below, or_else, first_below}
 use Rattle.definitions.specs.Sets.{has}
 use Rattle.definitions.specs.Words.{block_of}
 use Rattle.definitions.specs.Answer.{Refusal}
@@ -15,21 +15,19 @@ use Rattle.definitions.specs.Model.{Site, Box, Model, site_at, box_at, site_coun
 use Rattle.definitions.specs.Image.{site_record, model_of}
 use Rattle.definitions.specs.ReadModel.{used_before, site_fits, bound_before, reach_fits, first_misfit, blocks_fault, model_fault}
 use Rattle.definitions.proofs.Bounded.{any_cong}
-use Rattle.definitions.proofs.Loops.{Passed, passed_start, passed_end}
+use Rattle.definitions.proofs.Loops.{Passed, passed_start, passed-turn, passed_stop, passed_end}
 use Rattle.definitions.proofs.Faults.{faults}
+use Rattle.definitions.proofs.Image.{model_count}
 use Rattle.definitions.proofs.Sets.{has-none, or-false}
-use Rattle.refusals.specs.declared.Answer.{Answer}
-use Rattle.refusals.specs.declared.Answer.TheVariants.{NoRefusal, Refused}
-use Rattle.refusals.specs.declared.Refusal as code
 use Rattle.layouts.specs.declared.Layout.{Layout}
-use Rattle.refusals.specs.Answers.{answer_in}
 use Rattle.records.specs.NameSets.{SetOf}
-use Rattle.box_runs.specs.Runs.{TreesFit, box_misfit, line_fit, tree_fit, subject_in}
+use Rattle.box_runs.specs.Runs.{TreesFit, box_misfit, subject_in}
 use Rattle.model_rules.specs.Passes.{sites_misfit, lines_misfit, trees_misfit, reach_misfit}
 use Rattle.layouts.specs.LayoutOf.{FrameOf, LayoutOf}
-use Rattle.layouts.proofs.FrameLaws.{framed, in_room, in_scale, in_model_lem, past_model, lines_at, sites-at, site-there, site_few, few_kinds, free_in, kinds_in, free_or_unlisted_in}
+use Rattle.layouts.proofs.FrameLaws.{framed, in_model_lem, lines_at, sites-at, site-there, site_few, free_in, kinds_in, free_or_unlisted_in}
+use Rattle.layouts.proofs.LayoutLaws.{right}
 use Rattle.layouts.proofs.BoundLaws.{binds_in_lem}
-use Rattle.refusals.proofs.Answers.{passed_on, refused_stop, refused_else, else_more, is_none}
+use Rattle.refusals.proofs.Answers.{else_first, else_next}
 use Rattle.box_runs.proofs.Runs.{any_more, any_zero}
 use Rattle.records.proofs.PlaceLaws.{site-at, site-count, line-count}
 
@@ -39,57 +37,62 @@ use Rattle.records.proofs.PlaceLaws.{site-at, site-count, line-count}
 abbrev of_box : ℕ → Model → (Box → ℕ) → (ℕ → ℕ → Bool) → ℕ → Option Refusal
 of_box number m count fits b = box_misfit number (count (box_at m b)) fits b
 
-pub record BoxesFit (number : ℕ) (m : Model) (count : Box → ℕ) (fits : ℕ → ℕ → Bool) (b : ℕ) : Type 0 where
-  pub passed : Passed (box_count m) (of_box number m count fits) b
+-- of so many boxes of a model, those before b have no misfit
+pub record BoxesFit (m : Model) (boxes number : ℕ) (count : Box → ℕ) (fits : ℕ → ℕ → Bool) (b : ℕ) : Type 0 where
+  pub few : boxes ≤ 8
+  pub whole : boxes ≡ box_count m
+  pub passed : Passed boxes (of_box number m count fits) b
 
-module _ (number : ℕ) (m : Model) (count : Box → ℕ) (fits : ℕ → ℕ → Bool) where
-  boxes_start : BoxesFit number m count fits 0
-  boxes_start = record { passed = passed_start (box_count m) (of_box number m count fits) }
+module _ (m : Model) (boxes number : ℕ) (count : Box → ℕ) (fits : ℕ → ℕ → Bool) (b : ℕ) (p : BoxesFit m boxes number count fits b) where
+  module _ (n : ℕ) (l : b < boxes) (c : n ≡ count (box_at m b)) where
+    found : box_misfit number n fits b ≡ of_box number m count fits b
+    found = ap (λ (i : ℕ). box_misfit number i fits b) c
 
-  module _ (b n : ℕ) (f : Answer) (p : BoxesFit number m count fits b) (l : b < box_count m) (c : n ≡ count (box_at m b)) (e : answer_in f ≡ box_misfit number n fits b) where
-    found : answer_in f ≡ of_box number m count fits b
-    found = e ∙ ap (λ (i : ℕ). box_misfit number i fits b) c
+    boxes_turn : none ≡ box_misfit number n fits b → BoxesFit m boxes number count fits (b + 1)
+    boxes_turn e = record { few = p.few; whole = p.whole; passed = passed-turn boxes (of_box number m count fits) b p.passed l (e ∙ found) }
 
-    boxes_turn : f ≡ NoRefusal → BoxesFit number m count fits (b + 1)
-    boxes_turn q = record { passed = passed_on (box_count m) (of_box number m count fits) b f p.passed l found q }
-
-    boxes_stop : (x : code.Refusal) → f ≡ Refused x → answer_in f ≡ first_misfit number m count fits
+    boxes_stop : (r : Refusal) → some r ≡ box_misfit number n fits b → some r ≡ first_misfit number m count fits
     unfolding first_misfit box_misfit
-    boxes_stop x q = refused_stop (box_count m) (of_box number m count fits) b f p.passed l found x q
+    boxes_stop r e =
+        passed_stop boxes (of_box number m count fits) b r p.passed l (e ∙ found) ∙ ap (λ (n : ℕ). first_below n (of_box number m count fits)) p.whole
 
-  boxes_end : (b : ℕ) → BoxesFit number m count fits b → box_count m ≤ b → none ≡ first_misfit number m count fits
+  pub boxes_end : boxes ≤ b → none ≡ first_misfit number m count fits
   unfolding first_misfit box_misfit
-  boxes_end b p l = passed_end (box_count m) (of_box number m count fits) b p.passed l
+  boxes_end l = passed_end boxes (of_box number m count fits) b p.passed l ∙ ap (λ (n : ℕ). first_below n (of_box number m count fits)) p.whole
+
+module _ (image : List ℕ) (l : Layout) (f : blocks_fault image ≡ none) (h : FrameOf image l) where
+  pub boxes_start : (number : ℕ) (count : Box → ℕ) (fits : ℕ → ℕ → Bool) → BoxesFit (model_of image) l.boxes number count fits 0
+  boxes_start number count fits = record {
+    few = (let e = h.boxes in let k = (right image f).head.boxes in omega arith);
+    whole = h.boxes ∙ sym (model_count image);
+    passed = passed_start l.boxes (of_box number (model_of image) count fits);
+  }
 
 -- ---- 6
 
-pub record SitesPass (image : List ℕ) (b used : ℕ) : Type 0 where
-  pub boxes_fit : BoxesFit 6 (model_of image) site_count (site_fits (model_of image)) b
+pub record SitesPass (image : List ℕ) (boxes b used : ℕ) : Type 0 where
+  pub boxes_fit : BoxesFit (model_of image) boxes 6 site_count (site_fits (model_of image)) b
   pub used_up : SetOf used (used_before (model_of image) b 0)
 
-pub used-none : (image : List ℕ) (b used : ℕ) → SitesPass image b used → SetOf used (used_before (model_of image) b 0)
-used-none image b used p = p.used_up
-
-pub six_start : (image : List ℕ) → SitesPass image 0 0
+pub six_start : (image : List ℕ) (l : Layout) → blocks_fault image ≡ none → FrameOf image l → SitesPass image l.boxes 0 0
 unfolding used_before
-six_start image = record {
-  boxes_fit = boxes_start 6 (model_of image) site_count (site_fits (model_of image));
+six_start image l f h = record {
+  boxes_fit = boxes_start image l f h 6 site_count (site_fits (model_of image));
   used_up = record { at = λ n l. has-none n ∙ sym (ap₂ ◌or◌ (any_zero _) (any_zero _) ∙ or-false false) };
 }
 
-module _ (image : List ℕ) (l : Layout) (b used : ℕ) (a : Answer) (f : blocks_fault image ≡ none) (h : FrameOf image l) (p : SitesPass image b used) (q : b < l.boxes)
-    (e : answer_in a ≡ box_misfit 6 (get_or l.sites b 0) (site_fits (model_of image)) b) where
-  pub six_turn : (s r : ℕ) → a ≡ NoRefusal → SetOf s (subject_in (block_of image (get_or l.at b 0)) (get_or l.sites b 0))
-      → ((m : ℕ) → has r m ≡ (has used m or has s m)) → SitesPass image (b + 1) r
+module _ (image : List ℕ) (l : Layout) (b used : ℕ) (f : blocks_fault image ≡ none) (h : FrameOf image l) (p : SitesPass image l.boxes b used) (q : b < l.boxes) where
+  pub six_turn : (s r : ℕ) → none ≡ box_misfit 6 (get_or l.sites b 0) (site_fits (model_of image)) b
+      → SetOf s (subject_in (block_of image (get_or l.at b 0)) (get_or l.sites b 0)) → ((m : ℕ) → has r m ≡ (has used m or has s m)) → SitesPass image l.boxes (b + 1) r
   unfolding used_before subject_in
-  six_turn s r z t u =
+  six_turn s r e t u =
       let m = model_of image in
       let k = get_or l.at b 0 in
       let n = get_or l.sites b 0 in
       let at = sites-at image l f h b q in
       let count = site-count image b k n at in
       record {
-        boxes_fit = boxes_turn 6 m site_count (site_fits m) b n a p.boxes_fit (in_model_lem image l f h b q) count e z;
+        boxes_fit = boxes_turn m l.boxes 6 site_count (site_fits m) b p.boxes_fit n q count e;
         used_up = record {
           at = λ x g.
               let box : ℕ → Bool = λ c. any_below (site_count (box_at m c)) (λ j. (site_at (box_at m c) j).subject is x) in
@@ -103,97 +106,52 @@ module _ (image : List ℕ) (l : Layout) (b used : ℕ) (a : Answer) (f : blocks
         };
       }
 
-  pub six_stop : (x : code.Refusal) → a ≡ Refused x → answer_in a ≡ sites_misfit (model_of image)
-  unfolding sites_misfit
-  six_stop x z =
-      boxes_stop 6 (model_of image) site_count (site_fits (model_of image)) b (get_or l.sites b 0) a p.boxes_fit (in_model_lem image l f h b q)
-      (site-count image b (get_or l.at b 0) (get_or l.sites b 0) (sites-at image l f h b q)) e x z
+  pub six_stop : (r : Refusal) → some r ≡ box_misfit 6 (get_or l.sites b 0) (site_fits (model_of image)) b → some r ≡ sites_misfit (model_of image)
+  six_stop r e =
+      boxes_stop (model_of image) l.boxes 6 site_count (site_fits (model_of image)) b p.boxes_fit (get_or l.sites b 0) q
+      (site-count image b (get_or l.at b 0) (get_or l.sites b 0) (sites-at image l f h b q)) r e
 
-pub six_end : (image : List ℕ) (l : Layout) (b used : ℕ) → blocks_fault image ≡ none → FrameOf image l → SitesPass image b used → l.boxes ≤ b → none ≡ sites_misfit (model_of image)
-unfolding sites_misfit
-six_end image l b used f h p q = boxes_end 6 (model_of image) site_count (site_fits (model_of image)) b p.boxes_fit (past_model image l f h b q)
+-- ---- 7, 8 and 9, of the lines
 
--- ---- 7 and 8
-
-module _ (image : List ℕ) (l : Layout) (b : ℕ) (a : Answer) (f : blocks_fault image ≡ none) (h : FrameOf image l) (q : b < l.boxes) where
+module _ (image : List ℕ) (l : Layout) (b : ℕ) (f : blocks_fault image ≡ none) (h : FrameOf image l) (q : b < l.boxes) where
   lines_counted : get_or l.lines b 0 ≡ line_count (box_at (model_of image) b)
   lines_counted = line-count image b (get_or l.at b 0) (get_or l.lines b 0) (lines_at image l f h b q)
 
-pub record LinesPass (image : List ℕ) (b : ℕ) : Type 0 where
-  pub boxes_fit : BoxesFit 7 (model_of image) line_count (line_fit (model_of image)) b
+  module _ (number : ℕ) (fits : ℕ → ℕ → Bool) (p : BoxesFit (model_of image) l.boxes number line_count fits b) where
+    pub lines_turn : none ≡ box_misfit number (get_or l.lines b 0) fits b → BoxesFit (model_of image) l.boxes number line_count fits (b + 1)
+    lines_turn e = boxes_turn (model_of image) l.boxes number line_count fits b p (get_or l.lines b 0) q lines_counted e
 
-pub seven_start : (image : List ℕ) → LinesPass image 0
-seven_start image = record { boxes_fit = boxes_start 7 (model_of image) line_count (line_fit (model_of image)) }
-
-module _ (image : List ℕ) (l : Layout) (b : ℕ) (a : Answer) (f : blocks_fault image ≡ none) (h : FrameOf image l) (p : LinesPass image b) (q : b < l.boxes)
-    (e : answer_in a ≡ box_misfit 7 (get_or l.lines b 0) (line_fit (model_of image)) b) where
-  pub seven_turn : a ≡ NoRefusal → LinesPass image (b + 1)
-  seven_turn z = record {
-    boxes_fit = boxes_turn 7 (model_of image) line_count (line_fit (model_of image)) b (get_or l.lines b 0) a p.boxes_fit (in_model_lem image l f h b q) (lines_counted image l b a f h q) e z;
-  }
-
-  pub seven_stop : (x : code.Refusal) → a ≡ Refused x → answer_in a ≡ lines_misfit (model_of image)
-  unfolding lines_misfit
-  seven_stop x z =
-      boxes_stop 7 (model_of image) line_count (line_fit (model_of image)) b (get_or l.lines b 0) a p.boxes_fit (in_model_lem image l f h b q) (lines_counted image l b a f h q) e x z
-
-pub seven_end : (image : List ℕ) (l : Layout) (b : ℕ) → blocks_fault image ≡ none → FrameOf image l → LinesPass image b → l.boxes ≤ b → none ≡ lines_misfit (model_of image)
-unfolding lines_misfit
-seven_end image l b f h p q = boxes_end 7 (model_of image) line_count (line_fit (model_of image)) b p.boxes_fit (past_model image l f h b q)
-
-pub record TreesPass (image : List ℕ) (b : ℕ) : Type 0 where
-  pub boxes_fit : BoxesFit 8 (model_of image) line_count (tree_fit (model_of image)) b
-
-pub eight_start : (image : List ℕ) → TreesPass image 0
-eight_start image = record { boxes_fit = boxes_start 8 (model_of image) line_count (tree_fit (model_of image)) }
-
-module _ (image : List ℕ) (l : Layout) (b : ℕ) (a : Answer) (f : blocks_fault image ≡ none) (h : FrameOf image l) (p : TreesPass image b) (q : b < l.boxes)
-    (e : answer_in a ≡ box_misfit 8 (get_or l.lines b 0) (tree_fit (model_of image)) b) where
-  pub eight_turn : a ≡ NoRefusal → TreesPass image (b + 1)
-  eight_turn z = record {
-    boxes_fit = boxes_turn 8 (model_of image) line_count (tree_fit (model_of image)) b (get_or l.lines b 0) a p.boxes_fit (in_model_lem image l f h b q) (lines_counted image l b a f h q) e z;
-  }
-
-  pub eight_stop : (x : code.Refusal) → a ≡ Refused x → answer_in a ≡ trees_misfit (model_of image)
-  unfolding trees_misfit
-  eight_stop x z =
-      boxes_stop 8 (model_of image) line_count (tree_fit (model_of image)) b (get_or l.lines b 0) a p.boxes_fit (in_model_lem image l f h b q) (lines_counted image l b a f h q) e x z
-
-pub eight_end : (image : List ℕ) (l : Layout) (b : ℕ) → blocks_fault image ≡ none → FrameOf image l → TreesPass image b → l.boxes ≤ b → none ≡ trees_misfit (model_of image)
-unfolding trees_misfit
-eight_end image l b f h p q = boxes_end 8 (model_of image) line_count (tree_fit (model_of image)) b p.boxes_fit (past_model image l f h b q)
+    pub lines_stop : (r : Refusal) → some r ≡ box_misfit number (get_or l.lines b 0) fits b → some r ≡ first_misfit number (model_of image) line_count fits
+    lines_stop r e = boxes_stop (model_of image) l.boxes number line_count fits b p (get_or l.lines b 0) q lines_counted r e
 
 -- ---- 9
 
-pub record ReachPass (image : List ℕ) (b bound : ℕ) : Type 0 where
-  pub boxes_fit : BoxesFit 9 (model_of image) line_count (reach_fits (model_of image)) b
+pub record ReachPass (image : List ℕ) (boxes b bound : ℕ) : Type 0 where
+  pub boxes_fit : BoxesFit (model_of image) boxes 9 line_count (reach_fits (model_of image)) b
   pub bound_up : SetOf bound (bound_before (model_of image) b 0)
 
-pub bound-none : (image : List ℕ) (b bound : ℕ) → ReachPass image b bound → SetOf bound (bound_before (model_of image) b 0)
-bound-none image b bound p = p.bound_up
-
-pub nine_start : (image : List ℕ) → ReachPass image 0 0
+pub nine_start : (image : List ℕ) (l : Layout) → blocks_fault image ≡ none → FrameOf image l → ReachPass image l.boxes 0 0
 unfolding bound_before
-nine_start image = record {
-  boxes_fit = boxes_start 9 (model_of image) line_count (reach_fits (model_of image));
+nine_start image l f h = record {
+  boxes_fit = boxes_start image l f h 9 line_count (reach_fits (model_of image));
   bound_up = record { at = λ n l. has-none n ∙ sym (ap₂ ◌or◌ (any_zero _) (any_zero _) ∙ or-false false) };
 }
 
 pub trees_fit : (image : List ℕ) (l : Layout) (b : ℕ) → blocks_fault image ≡ none → FrameOf image l → trees_misfit (model_of image) ≡ none → b < l.boxes
     → TreesFit image b (get_or l.lines b 0)
-unfolding trees_misfit first_misfit
+unfolding first_misfit
 trees_fit image l b f h t q =
     let fits = simp faults at t in
-    record { fits = λ i z. fits b (in_model_lem image l f h b q) i (let k = lines_counted image l b NoRefusal f h q in omega arith) }
+    record { fits = λ i z. fits b (in_model_lem image l f h b q) i (let k = lines_counted image l b f h q in omega arith) }
 
-module _ (image : List ℕ) (l : Layout) (b bound : ℕ) (a : Answer) (f : blocks_fault image ≡ none) (h : LayoutOf image l) (p : ReachPass image b bound) (q : b < l.boxes)
-    (e : answer_in a ≡ box_misfit 9 (get_or l.lines b 0) (reach_fits (model_of image)) b) where
-  pub nine_turn : (r : ℕ) → a ≡ NoRefusal → ((m : ℕ) → has r m ≡ (has bound m or has (get_or l.bound b 0) m)) → ReachPass image (b + 1) r
+module _ (image : List ℕ) (l : Layout) (b bound : ℕ) (f : blocks_fault image ≡ none) (h : LayoutOf image l) (p : ReachPass image l.boxes b bound) (q : b < l.boxes) where
+  pub nine_turn : (r : ℕ) → none ≡ box_misfit 9 (get_or l.lines b 0) (reach_fits (model_of image)) b
+      → ((m : ℕ) → has r m ≡ (has bound m or has (get_or l.bound b 0) m)) → ReachPass image l.boxes (b + 1) r
   unfolding bound_before
-  nine_turn r z u =
+  nine_turn r e u =
       let m = model_of image in
       record {
-        boxes_fit = boxes_turn 9 m line_count (reach_fits m) b (get_or l.lines b 0) a p.boxes_fit (in_model_lem image l f h.frame b q) (lines_counted image l b a f h.frame q) e z;
+        boxes_fit = lines_turn image l b f h.frame q 9 (reach_fits m) p.boxes_fit e;
         bound_up = record {
           at = λ x g.
               let box : ℕ → Bool = λ c. binds_in (box_at m c) x in
@@ -203,40 +161,12 @@ module _ (image : List ℕ) (l : Layout) (b bound : ℕ) (a : Answer) (f : block
         };
       }
 
-  pub nine_stop : (x : code.Refusal) → a ≡ Refused x → answer_in a ≡ reach_misfit (model_of image)
-  unfolding reach_misfit
-  nine_stop x z =
-      boxes_stop 9 (model_of image) line_count (reach_fits (model_of image)) b (get_or l.lines b 0) a p.boxes_fit (in_model_lem image l f h.frame b q) (lines_counted image l b a f h.frame q) e x z
-
-pub nine_end : (image : List ℕ) (l : Layout) (b bound : ℕ) → blocks_fault image ≡ none → FrameOf image l → ReachPass image b bound → l.boxes ≤ b → none ≡ reach_misfit (model_of image)
-unfolding reach_misfit
-nine_end image l b bound f h p q = boxes_end 9 (model_of image) line_count (reach_fits (model_of image)) b p.boxes_fit (past_model image l f h b q)
-
 -- ---- the whole model
 
-module _ (m : Model) where
-  all_parts : model_fault m ≡ or_else (sites_misfit m) (or_else (lines_misfit m) (or_else (trees_misfit m) (reach_misfit m)))
-  unfolding model_fault sites_misfit lines_misfit trees_misfit reach_misfit
-  all_parts = refl
+pub all_parts : (m : Model) → model_fault m ≡ or_else (sites_misfit m) (or_else (lines_misfit m) (or_else (trees_misfit m) (reach_misfit m)))
+unfolding model_fault
+all_parts m = refl
 
-  module _ (six : Answer) (e6 : answer_in six ≡ sites_misfit m) where
-    pub model_six : (x : code.Refusal) → six ≡ Refused x → answer_in six ≡ model_fault m
-    model_six x q = refused_else _ _ six x e6 q ∙ sym all_parts
+pub ruleset passes = (rules, framed, site-there, site_few, lines_at, sites-at, free_in, kinds_in, free_or_unlisted_in, trees_fit, six_stop, lines_stop)
 
-    module _ (seven : Answer) (q6 : six ≡ NoRefusal) (e7 : answer_in seven ≡ lines_misfit m) where
-      pub model_seven : (x : code.Refusal) → seven ≡ Refused x → answer_in seven ≡ model_fault m
-      model_seven x q = else_more _ _ (answer_in seven) six e6 q6 (refused_else _ _ seven x e7 q) ∙ sym all_parts
-
-      module _ (eight : Answer) (q7 : seven ≡ NoRefusal) (e8 : answer_in eight ≡ trees_misfit m) where
-        pub model_eight : (x : code.Refusal) → eight ≡ Refused x → answer_in eight ≡ model_fault m
-        model_eight x q =
-            else_more _ _ (answer_in eight) six e6 q6 (else_more _ _ (answer_in eight) seven e7 q7 (refused_else _ _ eight x e8 q)) ∙ sym all_parts
-
-        pub model_nine : (o : Option Refusal) → eight ≡ NoRefusal → o ≡ reach_misfit m → o ≡ model_fault m
-        model_nine o q s =
-            else_more _ _ o six e6 q6 (else_more _ _ o seven e7 q7 (else_more _ _ o eight e8 q s)) ∙ sym all_parts
-
-pub trees_none : (m : Model) (a : Answer) → answer_in a ≡ trees_misfit m → a ≡ NoRefusal → trees_misfit m ≡ none
-trees_none m a e q = is_none (trees_misfit m) a e q
-
-pub ruleset passes = (rules, framed, in_room, in_scale, site-there, site_few, lines_at, sites-at, few_kinds, free_in, kinds_in, free_or_unlisted_in, used-none, six_start, six_turn, six_stop, six_end, seven_start, seven_turn, seven_stop, seven_end, eight_start, eight_turn, eight_stop, eight_end, bound-none, nine_start, trees_fit, nine_turn, nine_stop, nine_end, model_six, model_seven, model_eight, model_nine, trees_none)
+pub ruleset parts = (rules, framed, all_parts, else_first, else_next)

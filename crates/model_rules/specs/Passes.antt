@@ -6,14 +6,14 @@ use Rattle.definitions.specs.ReadModel.{site_fits, reach_fits, first_misfit}
 use Rattle.box_runs.specs.Runs.{line_fit, tree_fit}
 
 -- 6 to 9, each over the whole model
-unfoldable pub sites_misfit : Model → Option Refusal
+abbrev pub sites_misfit : Model → Option Refusal
 sites_misfit m = first_misfit 6 m site_count (site_fits m)
 
-unfoldable pub lines_misfit : Model → Option Refusal
+abbrev pub lines_misfit : Model → Option Refusal
 lines_misfit m = first_misfit 7 m line_count (line_fit m)
 
-unfoldable pub trees_misfit : Model → Option Refusal
+abbrev pub trees_misfit : Model → Option Refusal
 trees_misfit m = first_misfit 8 m line_count (tree_fit m)
 
-unfoldable pub reach_misfit : Model → Option Refusal
+abbrev pub reach_misfit : Model → Option Refusal
 reach_misfit m = first_misfit 9 m line_count (reach_fits m)

@@ -1,4 +1,4 @@
-#![tactic(auto)]
+#![tactic(auto, using(crate::proofs::PassLaws::passes))]
 // Refusals 6 to 9, each over the whole model, boxes and records ascending.
 ghost use Rattle.std.specs.Prelude.{◌≡◌};
 ghost use Rattle.std.proofs.Math.Option.{none};
@@ -9,112 +9,78 @@ ghost use Rattle.model_rules.specs.Passes.{sites_misfit, lines_misfit, trees_mis
 ghost use Rattle.layouts.specs.LayoutOf.{LayoutOf};
 
 use layouts::Layout;
-use refusals::Answer;
+use refusals::Refusal;
 
-fn sites_pass(image: &[u8], l: Layout) -> Answer
-    requires { (blocks_fault image.now ≡ none) × LayoutOf image.now l }
+fn sites_pass(image: &[u8], l: Layout) -> Result<(), Refusal>
+    requires right { blocks_fault image.now ≡ none }
+    requires layout { LayoutOf image.now l }
     ensures { answer_in result ≡ sites_misfit (model_of image.now) }
 {
-    let at = l.at;
-    let sites = l.sites;
-    let boxes = l.boxes;
-    let mut used: u64 = 0;
-    let mut b = 0;
-    while b < boxes {
-        let k = at[b];
-        let n = sites[b];
-        let f = box_runs::box_sites(image, b, k, n, l.free, used);
-        if let Answer::Refused(_) = f {
-            return f;
-        }
+    let mut used = 0;
+    for b in 0..l.boxes {
+        let k = l.at[b];
+        let n = l.sites[b];
+        box_runs::box_sites(image, b, k, n, l.free, used)?;
         used = sets::union(used, box_runs::subjects(image, k, n));
-        b += 1;
     }
-    Answer::NoRefusal
+    Ok(())
 }
 
-fn lines_pass(image: &[u8], l: Layout) -> Answer
-    requires { (blocks_fault image.now ≡ none) × LayoutOf image.now l }
+fn lines_pass(image: &[u8], l: Layout) -> Result<(), Refusal>
+    requires right { blocks_fault image.now ≡ none }
+    requires layout { LayoutOf image.now l }
     ensures { answer_in result ≡ lines_misfit (model_of image.now) }
 {
-    let at = l.at;
-    let lines = l.lines;
-    let boxes = l.boxes;
-    let mut b = 0;
-    while b < boxes {
-        let f = box_runs::box_lines(
+    for b in 0..l.boxes {
+        box_runs::box_lines(
             image,
             b,
-            at[b],
-            lines[b],
+            l.at[b],
+            l.lines[b],
             l.listed,
             l.restricted,
             l.received,
             l.exposed,
-        );
-        if let Answer::Refused(_) = f {
-            return f;
-        }
-        b += 1;
+        )?;
     }
-    Answer::NoRefusal
+    Ok(())
 }
 
-fn trees_pass(image: &[u8], l: Layout) -> Answer
-    requires { (blocks_fault image.now ≡ none) × LayoutOf image.now l }
+fn trees_pass(image: &[u8], l: Layout) -> Result<(), Refusal>
+    requires right { blocks_fault image.now ≡ none }
+    requires layout { LayoutOf image.now l }
     ensures { answer_in result ≡ trees_misfit (model_of image.now) }
 {
-    let at = l.at;
-    let lines = l.lines;
-    let boxes = l.boxes;
-    let mut b = 0;
-    while b < boxes {
-        let f = box_runs::box_tree(image, b, at[b], lines[b]);
-        if let Answer::Refused(_) = f {
-            return f;
-        }
-        b += 1;
+    for b in 0..l.boxes {
+        box_runs::box_tree(image, b, l.at[b], l.lines[b])?;
     }
-    Answer::NoRefusal
+    Ok(())
 }
 
-fn reach_pass(image: &[u8], l: Layout) -> Answer
-    requires { (blocks_fault image.now ≡ none) × LayoutOf image.now l × (trees_misfit (model_of image.now) ≡ none) }
+fn reach_pass(image: &[u8], l: Layout) -> Result<(), Refusal>
+    requires right { blocks_fault image.now ≡ none }
+    requires layout { LayoutOf image.now l }
+    requires trees { trees_misfit (model_of image.now) ≡ none }
     ensures { answer_in result ≡ reach_misfit (model_of image.now) }
 {
-    let at = l.at;
-    let lines = l.lines;
-    let binds = l.bound;
-    let boxes = l.boxes;
     let free_or_unlisted = sets::union(l.free, records::names::complement(l.listed));
-    let mut bound: u64 = 0;
-    let mut b = 0;
-    while b < boxes {
-        let f = box_reach::box_reach(image, b, at[b], lines[b], free_or_unlisted, bound);
-        if let Answer::Refused(_) = f {
-            return f;
-        }
-        bound = sets::union(bound, binds[b]);
-        b += 1;
+    let mut bound = 0;
+    for b in 0..l.boxes {
+        box_reach::box_reach(image, b, l.at[b], l.lines[b], free_or_unlisted, bound)?;
+        bound = sets::union(bound, l.bound[b]);
     }
-    Answer::NoRefusal
+    Ok(())
 }
 
-pub fn model_fault(image: &[u8], l: Layout) -> Answer
-    requires { (blocks_fault image.now ≡ none) × LayoutOf image.now l }
+// 6 to 9, in this order.
+#[tactic(auto, using(crate::proofs::PassLaws::parts))]
+pub fn model_fault(image: &[u8], l: Layout) -> Result<(), Refusal>
+    requires right { blocks_fault image.now ≡ none }
+    requires layout { LayoutOf image.now l }
     ensures { answer_in result ≡ model_fault (model_of image.now) }
 {
-    let six = sites_pass(image, l);
-    if let Answer::Refused(_) = six {
-        return six;
-    }
-    let seven = lines_pass(image, l);
-    if let Answer::Refused(_) = seven {
-        return seven;
-    }
-    let eight = trees_pass(image, l);
-    if let Answer::Refused(_) = eight {
-        return eight;
-    }
+    sites_pass(image, l)?;
+    lines_pass(image, l)?;
+    trees_pass(image, l)?;
     reach_pass(image, l)
 }

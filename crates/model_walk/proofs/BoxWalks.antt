@@ -7,17 +7,15 @@ use mathlib.Core.Option.{none}
 use Prim.Native.Nat.{ℕ, ◌+◌, ◌≤◌, ◌<◌}
 use native.Mathlib.Omega.{arith}
 use borrow.Author.Rules.{rules}
-use lib.Dec.{T, eqb, eqb→eq}
+use lib.Dec.{T}
 use lib.Bits.{bit_or}
 use lib.ListN.{length, get_or, set, length-set}
-use mir.Syntax.{w64}
-use mir.Val.{Fits}
 use Rattle.definitions.specs.Bounded.{◌and◌, ◌or◌, ◌is◌, ◌implies◌, any_below}
 use Rattle.definitions.specs.Sets.{has}
 use Rattle.definitions.specs.Model.{Box, Model, site_at, line_at, box_at, site_count, line_count, kind_of_name, binds, binds_in, bound_above}
 use Rattle.definitions.specs.Image.{box_of_image, model_of}
 use Rattle.definitions.specs.ReadModel.{used_before, site_fits, uses, bound_before, reach_fits, blocks_fault}
-use Rattle.definitions.proofs.Bounded.{and_iff, or_iff, implies_iff, all_iff, of_true}
+use Rattle.definitions.proofs.Bounded.{and_iff, or_iff, implies_iff, all_iff}
 use Rattle.definitions.proofs.Faults.{not_iff}
 use Rattle.definitions.proofs.Image.{model_box}
 use Rattle.definitions.proofs.ReadModel.{sites_most}
@@ -33,7 +31,7 @@ use Rattle.line_walk.proofs.Walks.{one_more}
 use Rattle.line_table.proofs.Digits.{empty_zero, empty_or_left, empty_or_right}
 use Rattle.layouts.specs.declared.Layout.{Layout}
 use Rattle.layouts.specs.LayoutOf.{FrameOf}
-use Rattle.layouts.proofs.LayoutLaws.{set_entry}
+use Rattle.layouts.proofs.LayoutLaws.{right, set_entry}
 use Rattle.layouts.proofs.FrameLaws.{inside, in_room, in_scale, past_model, lines_at, sites-at, site-there, site_few, few_kinds, free_in, kinds_in}
 use Rattle.layouts.proofs.BoundLaws.{bound-there}
 use Rattle.model_walk.specs.Sites.{SitesTold}
@@ -101,52 +99,49 @@ pub record BoxesRight (image : List ℕ) (b used seen : ℕ) (bound : List ℕ) 
   pub bound_up : SetOf seen (bound_before (model_of image) b 0)
   pub binders : (c : ℕ) → c < b → (n : ℕ) → n < 64 → has (get_or bound c 0) n ≡ binds_in (box_of_image image c) n
 
-pub record BoxWalk (image : List ℕ) (b used seen bad : ℕ) (bound : List ℕ) : Type 0 where
+pub record BoxWalk (image : List ℕ) (boxes b used seen bad : ℕ) (bound : List ℕ) : Type 0 where
+  pub few : boxes ≤ 8
   pub long : length bound ≡ 8
   pub told : Empty bad → BoxesRight image b used seen bound
 
--- no box yet
-pub boxes_start : (image bound : List ℕ) → length bound ≡ 8 → BoxWalk image 0 0 0 0 bound
-unfolding used_before bound_before
-boxes_start image bound e = record {
-  long = e;
-  told = λ _. record {
-    sites = λ c l. absurd (omega arith);
-    lines = λ c l. absurd (omega arith);
-    trees = λ c l. absurd (omega arith);
-    reaches = λ c l. absurd (omega arith);
-    used_up = record { at = λ n l. has-none n ∙ sym (ap₂ ◌or◌ (any_zero _) (any_zero _) ∙ or-false false) };
-    bound_up = record { at = λ n l. has-none n ∙ sym (ap₂ ◌or◌ (any_zero _) (any_zero _) ∙ or-false false) };
-    binders = λ c l. absurd (omega arith);
-  };
-}
+module _ (image : List ℕ) (l : Layout) (f : blocks_fault image ≡ none) (h : FrameOf image l) where
+  -- no box yet
+  pub boxes_start : (bound : List ℕ) → length bound ≡ 8 → BoxWalk image l.boxes 0 0 0 0 bound
+  unfolding used_before bound_before
+  boxes_start bound e = record {
+    few = omega (arith, (right image f).head.boxes, h.boxes);
+    long = e;
+    told = λ _. record {
+      sites = λ c l. absurd (omega arith);
+      lines = λ c l. absurd (omega arith);
+      trees = λ c l. absurd (omega arith);
+      reaches = λ c l. absurd (omega arith);
+      used_up = record { at = λ n l. has-none n ∙ sym (ap₂ ◌or◌ (any_zero _) (any_zero _) ∙ or-false false) };
+      bound_up = record { at = λ n l. has-none n ∙ sym (ap₂ ◌or◌ (any_zero _) (any_zero _) ∙ or-false false) };
+      binders = λ c l. absurd (omega arith);
+    };
+  }
 
--- a next box of a frame
-module _ (image : List ℕ) (l : Layout) (f : blocks_fault image ≡ none) (h : FrameOf image l) (b : ℕ) (q : b < l.boxes) where
-  pub block_few : get_or l.at b 0 < 100
-  block_few = omega (arith, h.at b (inside image l f h b q), sites_most image b, in_room image l f h b q)
+  -- a next box
+  module _ (b : ℕ) (q : b < l.boxes) where
+    pub block_few : get_or l.at b 0 < 100
+    block_few = omega (arith, h.at b (inside image l f h b q), sites_most image b, in_room image l f h b q)
 
-  pub in_step : Fits w64 (b + 1)
-  in_step = let z = in_room image l f h b q in omega arith
-
-  module _ (used seen bad : ℕ) (bound : List ℕ) (p : BoxWalk image b used seen bad bound) where
-    pub boxes_room : b < length bound
-    boxes_room = omega (arith, p.long, in_room image l f h b q)
-
-    pub boxes_turn : (sb su wb ws rest r : ℕ) → SitesTold image (get_or l.at b 0) (get_or l.sites b 0) l.free used sb su
+    pub boxes_turn : (used seen bad : ℕ) (bound : List ℕ) → BoxWalk image l.boxes b used seen bad bound → (sb su wb ws rest r : ℕ) → SitesTold image (get_or l.at b 0) (get_or l.sites b 0) l.free used sb su
         → LinesTold image (get_or l.at b 0) (get_or l.lines b 0) l.listed l.restricted l.received l.exposed l.free seen wb ws
-        → SetOf rest (lacks seen) → ((x : ℕ) → has r x ≡ (has ws x and has rest x)) → BoxWalk image (b + 1) su ws (bit_or (bit_or bad sb) wb) (set bound b r)
-    boxes_turn sb su wb ws rest r s w rests less = record {
+        → SetOf rest (lacks seen) → ((x : ℕ) → has r x ≡ (has ws x and has rest x)) → BoxWalk image l.boxes (b + 1) su ws (bit_or bad (bit_or sb wb)) (set bound b r)
+    boxes_turn used seen bad bound p sb su wb ws rest r s w rests less = record {
+      few = p.few;
       long = length-set bound b r ∙ p.long;
       told = λ e.
           let m = model_of image in
           let at-sites = sites-at image l f h b q in
           let at_lines = lines_at image l f h b q in
           let frees = free_in image l f h in
-          let two = empty_or_left (bit_or bad sb) wb e in
-          let so = p.told (empty_or_left bad sb two) in
-          let x = s.tells (empty_or_right bad sb two) b (record { at = at-sites; few = few_kinds image l f h; frees = frees; before = so.used_up }) in
-          let y = w.tells (empty_or_right (bit_or bad sb) wb e) b (record { at = at_lines; kinds = kinds_in image l f h; free = frees; before = so.bound_up }) in
+          let two = empty_or_right bad (bit_or sb wb) e in
+          let so = p.told (empty_or_left bad (bit_or sb wb) e) in
+          let x = s.tells (empty_or_left sb wb two) b (record { at = at-sites; few = few_kinds image l f h; frees = frees; before = so.used_up }) in
+          let y = w.tells (empty_or_right sb wb two) b (record { at = at_lines; kinds = kinds_in image l f h; free = frees; before = so.bound_up }) in
           let sites : get_or l.sites b 0 ≡ site_count (box_at m b) = site-count image b (get_or l.at b 0) (get_or l.sites b 0) at-sites in
           let lines : get_or l.lines b 0 ≡ line_count (box_at m b) = line-count image b (get_or l.at b 0) (get_or l.lines b 0) at_lines in
           record {
@@ -156,7 +151,7 @@ module _ (image : List ℕ) (l : Layout) (f : blocks_fault image ≡ none) (h : 
             reaches = one_more (λ c. (i : ℕ) → i < line_count (box_at m c) → T (reach_fits m c i)) b so.reaches (λ i z. y.reach i (omega (arith, lines)));
             used_up = record { at = λ n z. x.before.at n z ∙ used-next m b n (get_or l.sites b 0) sites };
             bound_up = record { at = λ n z. y.before.at n z ∙ bound-next m b n (get_or l.lines b 0) lines };
-            binders = set_entry (λ c v. (n : ℕ) → n < 64 → has v n ≡ binds_in (box_of_image image c) n) bound b r boxes_room so.binders
+            binders = set_entry (λ c v. (n : ℕ) → n < 64 → has v n ≡ binds_in (box_of_image image c) n) bound b r (omega (arith, p.few, p.long)) so.binders
                 (λ n z. bound_here m b (get_or l.lines b 0) seen ws rest r rests less lines so.bound_up y.before y.reach n z
                 ∙ ap (λ (x : Box). binds_in x n) (model_box image b (inside image l f h b q)));
           };
@@ -164,18 +159,18 @@ module _ (image : List ℕ) (l : Layout) (f : blocks_fault image ≡ none) (h : 
 
 -- all boxes
 pub boxes_end : (image : List ℕ) (l : Layout) → blocks_fault image ≡ none → FrameOf image l → (b used seen bad : ℕ) (bound : List ℕ)
-    → BoxWalk image b used seen bad bound → l.boxes ≤ b → BoxesTold image (eqb bad 0) bound
-boxes_end image l f h b used seen bad bound p q = record {
-  model = λ e.
-      let r = p.told (empty_zero bad (eqb→eq bad 0 (of_true e))) in
-      let past = past_model image l f h b q in
-      (fits_iff (model_of image)).1 (record {
+    → BoxWalk image l.boxes b used seen bad bound → l.boxes ≤ b → bad ≡ 0 → BoxesTold image bound
+boxes_end image l f h b used seen bad bound p q e =
+    let r = p.told (empty_zero bad e) in
+    let past = past_model image l f h b q in
+    record {
+      model = (fits_iff (model_of image)).1 (record {
         sites = λ c k. r.sites c (omega arith);
         lines = λ c k. r.lines c (omega arith);
         trees = λ c k. r.trees c (omega arith);
         reaches = λ c k. r.reaches c (omega arith);
       });
-  binders = λ e c k. (p.told (empty_zero bad (eqb→eq bad 0 (of_true e)))).binders c (omega (arith, h.boxes));
-}
+      binders = λ c k. r.binders c (omega (arith, h.boxes));
+    }
 
-pub ruleset box-walks = (rules, in_room, in_scale, site-there, site_few, bound-there, block_few, in_step, boxes_start, boxes_room, boxes_turn, boxes_end)
+pub ruleset box_walks = (rules, site-there, site_few, bound-there, block_few, boxes_start, boxes_turn, boxes_end)

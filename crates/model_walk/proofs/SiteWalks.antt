@@ -3,7 +3,7 @@ use mathlib.Core.Path.{◌≡◌, refl, sym, ap, ◌∙◌, subst}
 use mathlib.Core.Bool.{Bool, true, false}
 use mathlib.Core.List.{List}
 use mathlib.Core.Logic.{inl, inr}
-use Prim.Native.Nat.{ℕ, ◌+◌, ◌-◌, ◌*◌, ◌/◌, ◌%◌, ◌^◌, ◌≤◌, ◌<◌, zero-le}
+use Prim.Native.Nat.{ℕ, ◌+◌, ◌-◌, ◌*◌, ◌/◌, ◌%◌, ◌^◌, ◌≤◌, ◌<◌}
 use native.Mathlib.Nat.{le_antisymm}
 use native.Mathlib.Omega.{arith}
 use borrow.Author.Rules.{rules}
@@ -29,7 +29,7 @@ use Rattle.box_runs.proofs.Runs.{SiteRun, site-start, site-turn, site_end}
 use Rattle.line_table.specs.Told.{Empty}
 use Rattle.line_table.proofs.Digits.{in_or, in_set, empty_or_left, empty_or_right, field_zero}
 use Rattle.line_table.proofs.Lines.{not_in}
-use Rattle.line_table.proofs.WordLaws.{one-digit}
+use Rattle.line_table.proofs.TypeLaws.{one-digit}
 use Rattle.model_walk.specs.Sites.{site_zero, TypeTold, SiteTold, SitesGiven, SitesTold}
 
 -- ---- one site
@@ -105,18 +105,16 @@ module _ (free used w type r : ℕ) (s : SiteTold free used w type r) (e : Empty
 
 -- after i sites of any box, where no wrong digit was found
 pub record SiteWalk (image : List ℕ) (k n free start i bad used : ℕ) : Type 0 where
-  pub some : i ≤ n
   pub told : Empty bad → (b : ℕ) → SitesGiven image b k n free start → SiteRun image b n i used
 
 module _ (image : List ℕ) (k n free start : ℕ) where
   pub sites-start : SiteWalk image k n free start 0 0 start
-  sites-start = record { some = zero-le; told = λ e b g. site-start image b n start g.before }
+  sites-start = record { told = λ e b g. site-start image b n start g.before }
 
   pub sites-turn : (i bad used : ℕ) → SiteWalk image k n free start i bad used → i < n
       → (w type x r : ℕ) → w ≡ data_word (block_of image k) (2 * i) → type ≡ data_word (block_of image k) (2 * i + 1) → x ≡ 2 ^ (w % 64) → SiteTold free used w type r
       → SiteWalk image k n free start (i + 1) (bit_or bad r) (bit_or used x)
   sites-turn i bad used p l w type x r ew et ex s = record {
-    some = omega arith;
     told = λ e b g.
         let clean = empty_or_right bad r e in
         site-turn image b k n i (site_word w type) free used true (p.told (empty_or_left bad r e) b g) g.at l (site_of (block_of image k) i w type ew et) g.few g.frees
@@ -126,15 +124,15 @@ module _ (image : List ℕ) (k n free start : ℕ) where
         (ap (λ (x : ℕ). has x m) ex ∙ has_one (w % 64) m ∙ ap (λ (s : ℕ). s is m) (sym (subject_small free used w type r s clean))));
   }
 
-  pub sites_end : (i bad used : ℕ) → SiteWalk image k n free start i bad used → n ≤ i → SitesTold image k n free start bad used
+  pub sites_end : (i bad used : ℕ) → SiteWalk image k n free start i bad used → i ≤ n → n ≤ i → SitesTold image k n free start bad used
   unfolding box_misfit
-  sites_end i bad used p l = record {
+  sites_end i bad used p m l = record {
     tells = λ z b g.
         let run = p.told z b g in
         record {
           sites = λ j h. (passed_iff (site_fits (model_of image) b j) (refusal 6 b j)).0 ((first_iff n _).0 (sym (site_end image b n i used run l)) j h);
-          before = subst (λ (j : ℕ). SetOf used (used_before (model_of image) b j)) (le_antisymm p.some l) run.used_up;
+          before = subst (λ (j : ℕ). SetOf used (used_before (model_of image) b j)) (le_antisymm m l) run.used_up;
         };
   }
 
-pub ruleset site-walks = (rules, type_right, type_wrong, site_told, sites-start, sites-turn, sites_end)
+pub ruleset site_walks = (rules, type_right, type_wrong, site_told, sites-start, sites-turn, sites_end)

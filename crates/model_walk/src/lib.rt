@@ -1,6 +1,6 @@
 #![tactic(auto)]
 // One walk over the records of all boxes of a model that may only say "all right". Wrong digits are joined.
-ghost use Rattle.std.specs.Prelude.{◌≡◌, ◌+◌, ◌*◌, ◌≤◌, length};
+ghost use Rattle.std.specs.Prelude.{◌≡◌, ◌+◌, ◌*◌, ◌≤◌, length, IfSome};
 ghost use Rattle.std.proofs.Math.Option.{none};
 ghost use Rattle.definitions.specs.ReadModel.{blocks_fault};
 ghost use Rattle.layouts.specs.LayoutOf.{FrameOf};
@@ -8,23 +8,21 @@ ghost use Rattle.model_walk.specs.Sites.{TypeTold, SiteTold, SitesTold};
 ghost use Rattle.model_walk.specs.Boxes.{BoxesTold};
 
 use layouts::Layout;
-use line_table::table;
-use line_walk::walk_lines;
+use line_table::{Kinds, table};
+use line_walk::{Walked, walk_lines};
 use records::names::complement;
 use sets::NameNo;
 
 // 1 where the type of the name of the low eight digits does not fit, and else 0.
+#[tactic(auto, using(crate::proofs::SiteWalks::site_walks))]
 fn type_wrong(free: u64, w: u64, names: u64) -> u64
     ensures { TypeTold free w names result }
 {
-    if records::names::type_fits(free, NameNo((w % 256) as u8), names) {
-        0
-    } else {
-        1
-    }
+    u64::from(!records::names::type_fits(free, NameNo((w % 256) as u8), names))
 }
 
 // Wrong digits of a site by its two words; free: the free names; used: the subjects of the sites before.
+#[tactic(auto, using(crate::proofs::SiteWalks::site_walks))]
 fn site_wrong(free: u64, used: u64, w: u64, names: u64) -> u64
     ensures { SiteTold free used w names result }
 {
@@ -33,76 +31,51 @@ fn site_wrong(free: u64, used: u64, w: u64, names: u64) -> u64
     digits | subject | type_wrong(free, w, names)
 }
 
-#[derive(Clone, Copy)]
-pub struct WalkedSites {
-    pub bad: u64,
-    pub used: u64,
-}
-
 // The n sites of block k, of a box before which others have a set of subjects. Where no wrong digit is found every site fits.
-pub fn walk_sites(image: &[u8], k: usize, n: usize, free: u64, start: u64) -> WalkedSites
-    requires { (512 * (k + 1) ≤ length image.now) × (n ≤ 31) }
-    ensures { SitesTold image.now k n free start result.bad result.used }
+#[tactic(auto, using(crate::proofs::SiteWalks::site_walks))]
+pub fn walk_sites(image: &[u8], k: usize, n: usize, free: u64, start: u64) -> Walked
+    requires there { 512 * (k + 1) ≤ length image.now }
+    requires few { n ≤ 31 }
+    ensures { SitesTold image.now k n free start result.bad result.names }
 {
     let mut bad: u64 = 0;
     let mut used = start;
-    let mut i = 0;
-    while i < n {
+    for i in 0..n {
         let w = blocks::inside::data_word(image, k, 2 * i);
         let names = blocks::inside::data_word(image, k, 2 * i + 1);
-        let wrong = site_wrong(free, used, w, names);
-        bad = bad | wrong;
-        used = used | line_table::one(w);
-        i += 1;
+        bad |= site_wrong(free, used, w, names);
+        used |= line_table::one(w);
     }
-    WalkedSites { bad, used }
+    Walked { bad, names: used }
 }
 
-// The names that the lines of each box bind stand where all is right.
-#[derive(Clone, Copy)]
-pub struct WalkedBoxes {
-    pub right: bool,
-    pub bound: [u64; 8],
-}
-
-// All boxes. Where no wrong digit is found every record fits; and each binder is new, so what a box binds is what is bound up to its end, less
-// what was bound before it.
-pub fn walk_boxes(image: &[u8], l: Layout) -> WalkedBoxes
-    requires { (blocks_fault image.now ≡ none) × FrameOf image.now l }
-    ensures { BoxesTold image.now result.right result.bound }
+// All boxes: for each box, the names that its lines bind, where no wrong digit is found. Every record fits then; and each binder is new, so
+// what a box binds is what is bound up to its end, less what was bound before it.
+#[tactic(auto, using(crate::proofs::BoxWalks::box_walks))]
+pub fn walk_boxes(image: &[u8], l: Layout) -> Option<[u64; 8]>
+    requires blocks { blocks_fault image.now ≡ none }
+    requires frame { FrameOf image.now l }
+    ensures { IfSome result (λ bound. BoxesTold image.now bound) }
 {
-    let at = l.at;
-    let sites = l.sites;
-    let lines = l.lines;
-    let boxes = l.boxes;
-    let t = table(l.listed, l.restricted, l.received, l.exposed, l.free);
+    let kinds = Kinds {
+        listed: l.listed,
+        free: l.free,
+        restricted: l.restricted,
+        received: l.received,
+        exposed: l.exposed,
+    };
+    let t = table(kinds);
     let mut bound = [0u64; 8];
     let mut used: u64 = 0;
     let mut seen: u64 = 0;
     let mut bad: u64 = 0;
-    let mut b = 0;
-    while b < boxes {
-        let s = walk_sites(image, at[b], sites[b], l.free, used);
-        let w = walk_lines(
-            image,
-            &t,
-            l.listed,
-            l.restricted,
-            l.received,
-            l.exposed,
-            l.free,
-            at[b],
-            lines[b],
-            seen,
-        );
-        bound[b] = sets::intersection(w.bound, complement(seen));
-        bad = bad | s.bad | w.bad;
-        used = s.used;
-        seen = w.bound;
-        b += 1;
+    for b in 0..l.boxes {
+        let s = walk_sites(image, l.at[b], l.sites[b], l.free, used);
+        let w = walk_lines(image, &t, kinds, l.at[b], l.lines[b], seen);
+        bound[b] = sets::intersection(w.names, complement(seen));
+        bad |= s.bad | w.bad;
+        used = s.names;
+        seen = w.names;
     }
-    WalkedBoxes {
-        right: bad == 0,
-        bound,
-    }
+    if bad == 0 { Some(bound) } else { None }
 }

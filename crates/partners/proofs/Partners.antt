@@ -10,8 +10,8 @@ use Rattle.definitions.specs.Model.{Line}
 use Rattle.definitions.specs.Estimate.{Estimate}
 use Rattle.definitions.specs.Clauses.{clause6}
 use Rattle.definitions.proofs.Bounded.{isnt_iff, true_of, false_of, first_cong}
-use Rattle.definitions.proofs.Loops.{passed_start, passed-turn, passed_end}
-use Rattle.subsets.proofs.Walk.{ShortLeft, short_start, yes_none, lacks_of}
+use Rattle.definitions.proofs.Loops.{passed-turn, passed_end}
+use Rattle.subsets.proofs.Walk.{ShortLeft, short_start}
 use Rattle.clauses.proofs.Members.{shorts, names_shown, rho_names, box_62, names_62, second_62, met_yes}
 use Rattle.partners.specs.Partners.{fitting, of_box, of_boxes}
 
@@ -66,6 +66,6 @@ six_is e boxes b l p y d q r ep ey both eq er =
     er ∙ short_both p y d (of_boxes e boxes b q) both
     ∙ (λ i. first_short (ep i) (λ a. when (has (ey i) a) (of_boxes e boxes b (eq i) a)))
 
-pub ruleset partners = (shorts, fits, unfit, own_box, other_box, shown_start, names_shown, yes_none, lacks_of, passed_start, passed-turn, passed_end, boxes_as, box_62)
+pub ruleset partners = (shorts, fits, unfit, own_box, other_box, shown_start, names_shown, passed-turn, passed_end, boxes_as, box_62)
 
 pub ruleset found = (rules, met_yes, second_62, names_62, rho_names, six_is)

@@ -3,6 +3,7 @@
 ghost use Rattle.std.specs.Prelude.{◌≡◌, length};
 ghost use Rattle.io.specs.Counts.{IsPrefixLen};
 
+use sets::Ascending;
 use std::io::{ErrorKind, Read};
 use std::rt::Files;
 use std::{fs, io};
@@ -39,6 +40,7 @@ fn read_some<F: Read>(file: &mut F, buffer: &mut [u8]) -> usize
 }
 
 // How many bytes of a file stand at the front of the buffer once it is full, the file ends or a read fails.
+// The library's read_exact does not say how many it read of a file that ends before.
 fn read_full<F: Read>(file: &mut F, buffer: &mut [u8]) -> usize
     ensures { IsPrefixLen result buffer.new }
 {
@@ -104,14 +106,11 @@ pub fn number<R: Print>(rt: &R, n: u64) {
 // A space and the members of s, ascending, in braces with commas between.
 pub fn set<R: Print>(rt: &R, s: u64) {
     write(rt, b" {");
-    let mut left = s;
-    while left != 0 {
-        let n = sets::lowest(left);
-        decimal(rt, n.0 as u64);
-        left = sets::without_lowest(left);
-        if left != 0 {
-            write(rt, b",");
-        }
+    let mut between: &[u8] = b"";
+    for n in Ascending(s) {
+        write(rt, between);
+        decimal(rt, u64::from(n.0));
+        between = b",";
     }
     write(rt, b"}");
 }
@@ -129,10 +128,8 @@ fn write_answer<R: Print + Eprint>(rt: &R, bytes: &[u8]) {
 
 // The checker's line for two images.
 fn report<R: Print + Eprint>(rt: &R, model: &[u8], estimate: &[u8]) {
-    let t = report::line(analysis::check(model, estimate));
-    let n = t.len;
-    let bytes = t.bytes;
-    write_answer(rt, &bytes[..n]);
+    let line = report::line(analysis::check(model, estimate));
+    write_answer(rt, line.as_bytes());
 }
 
 // The checker on two files. Of a file that is too long one byte past the limit is read, which is enough to refuse it.

@@ -1,14 +1,14 @@
 -- Laws of the clauses at one record: a name, and a line by its operation. Assumes nothing.
-use mathlib.Core.Path.{◌≡◌, refl, sym, ap, ap₂, ◌∙◌}
-use mathlib.Core.Bool.{Bool, true, false, not}
+use mathlib.Core.Path.{◌≡◌, refl, sym, ap, ◌∙◌}
+use mathlib.Core.Bool.{Bool, false, not}
 use mathlib.Core.Option.{Option, none, some}
-use Prim.Native.Nat.{ℕ, ◌≤◌, ◌<◌}
+use Prim.Native.Nat.{ℕ, ◌<◌}
 use native.Mathlib.Nat.{lt_trans}
 use native.Mathlib.Omega.{arith}
 use borrow.Author.Rules.{rules}
 use lib.Dec.{T}
 use lib.ListN.{length}
-use Rattle.definitions.specs.Bounded.{◌and◌, ◌is◌, ◌below◌, when, or_else, first_below}
+use Rattle.definitions.specs.Bounded.{◌is◌, ◌below◌, when, or_else}
 use Rattle.definitions.specs.Sets.{has, absent, first_short, within}
 use Rattle.definitions.specs.Model as paper
 use Rattle.definitions.specs.Estimate.{Estimate}
@@ -17,47 +17,12 @@ use Rattle.definitions.proofs.Bounded.{and_iff, is_iff, below_iff, true_of, of_t
 use Rattle.definitions.proofs.Sets.{short_iff, short_some}
 use Rattle.definitions.proofs.Faults.{when_iff}
 use Rattle.definitions.proofs.Clauses.{at_iff}
-use Rattle.definitions.proofs.Loops.{Passed, else_go, answer_none, answer_else, answer_stop}
-use Rattle.records.specs.declared.Line.{Line}
-use Rattle.sets.specs.declared.NameNo.{NameNo}
-use Rattle.subsets.specs.declared.Within.{Within}
-use Rattle.subsets.specs.declared.Within.TheVariants.{Yes, Lacks}
-use Rattle.subsets.specs.Within.{within_in}
 use Rattle.clauses.proofs.Members.{rho_names, box_62, names_62, second_62, box_512, box_1024}
 use Rattle.sharing.specs.declared.Gathered.{Gathered}
 use Rattle.sharing.specs.Shared.{Least, all_sent_in, shared_on, may_send, GatheredOf}
 use Rattle.sharing.proofs.Gather.{four_met, five-met, six_met}
 use Rattle.clauses.specs.Known.{MetWhere}
-use Rattle.record_clauses.specs.declared.Broken.{Broken}
-use Rattle.record_clauses.specs.declared.Found.{Found}
-use Rattle.record_clauses.specs.declared.Found.TheVariants.{Nothing, First}
-use Rattle.record_clauses.specs.Found.{broken_in, found_in}
 use Rattle.record_clauses.specs.Known.{NamesFound, ShowsMet, LineFound}
-
--- ---- one after another
-
-module _ (f : Found) where
-  pub nothing : (x : Option cl.Broken) → found_in f ≡ x → f ≡ Nothing → none ≡ x
-  nothing x e q = answer_none found_in f Nothing refl x e q
-
-  pub first_else : (x y : Option cl.Broken) (a : Broken) → found_in f ≡ x → f ≡ First a → found_in f ≡ or_else x y
-  first_else x y a e q = answer_else found_in f (First a) (broken_in a) refl x y e q
-
-  pub nothing_else : (y : Option cl.Broken) → f ≡ Nothing → y ≡ or_else (found_in f) y
-  nothing_else y q = else_go (found_in f) y y (nothing (found_in f) refl q) refl
-
-  pub first_of : (n : ℕ) (g : ℕ → Option cl.Broken) (i : ℕ) (a : Broken) → Passed n g i → i < n → found_in f ≡ g i → f ≡ First a
-      → found_in f ≡ first_below n g
-  first_of n g i a p l e q = answer_stop found_in f (First a) (broken_in a) refl n g i p l e q
-
--- ---- a clause, by the name that is missing
-
-module _ (n b i : ℕ) (w : Within) where
-  pub at_yes : w ≡ Yes → none ≡ cl.broken_at n b i (within_in w)
-  at_yes q = sym (ap (λ (x : Within). cl.broken_at n b i (within_in x)) q)
-
-  pub at-lacks : (x : NameNo) → w ≡ Lacks x → some (cl.broken n b i x.0) ≡ cl.broken_at n b i (within_in w)
-  at-lacks x q = sym (ap (λ (y : Within). cl.broken_at n b i (within_in y)) q)
 
 -- ---- clause 1
 
@@ -82,25 +47,34 @@ own_name : (s n x : ℕ) → absent s n ≡ some x → n ≡ x
 unfolding absent
 own_name s n x z = (fault_some (not (has s n)) n x z).1
 
-module _ (e : Estimate) (free : ℕ) (w : Within) (q : within_in w ≡ first_short free (λ n. absent (e.rho n) n)) where
-  pub names_yes : w ≡ Yes → NamesFound e free none
-  names_yes k = record {
+module _ (e : Estimate) (free : ℕ) where
+  names_none : first_short free (λ n. absent (e.rho n) n) ≡ none → NamesFound e free none
+  names_none q = record {
     same = λ m few same. sym (each_none (cl.name_broken m e) (length m.kinds) (λ n h.
         let l : n < 64 = omega (arith, h, few) in
-        name_none m e free same n l h ((short_iff free (λ n. absent (e.rho n) n)).0 (sym q ∙ ap within_in k) n l)));
+        name_none m e free same n l h ((short_iff free (λ n. absent (e.rho n) n)).0 q n l)));
   }
 
-  pub names_lacks : (x : NameNo) → w ≡ Lacks x → NamesFound e free (some (cl.broken 1 0 x.0 x.0))
-  names_lacks x k = record {
+  names_some : (x : ℕ) → first_short free (λ n. absent (e.rho n) n) ≡ some x → NamesFound e free (some (cl.broken 1 0 x x))
+  names_some x q = record {
     same = λ m few same.
-        let y = short_some free (λ n. absent (e.rho n) n) x.0 (sym q ∙ ap within_in k) in
+        let y = short_some free (λ n. absent (e.rho n) n) x q in
         let n = y.0 in
-        let own = own_name (e.rho n) n x.0 y.3 in
+        let own = own_name (e.rho n) n x y.3 in
         let f = name_some m e free same n y.1 y.2 (y.3 ∙ ap some (sym own)) in
         ap (λ (i : ℕ). some (cl.broken 1 0 i i)) (sym own)
         ∙ sym (first_stop (cl.name_broken m e) (length m.kinds) f.0 (each_none (cl.name_broken m e) n (λ j h.
         name_none m e free same j (lt_trans h y.1) (lt_trans h f.0) (λ t. y.4 j h t))) f.1);
   }
+
+-- the name that is missing, as clause 1's record
+abbrev pub own_broken : Option ℕ → Option cl.Broken
+own_broken none = none
+own_broken (some n) = some (cl.broken 1 0 n n)
+
+pub names_found : (e : Estimate) (free : ℕ) (o : Option ℕ) (r : Option cl.Broken) → o ≡ first_short free (λ n. absent (e.rho n) n) → r ≡ own_broken o → NamesFound e free r
+names_found e free none r q k = rw k (names_none e free (sym q))
+names_found e free (some x) r q k = rw k (names_some e free x (sym q))
 
 -- ---- a line, by its operation
 
@@ -151,11 +125,16 @@ module _ (e : Estimate) (boxes b i : ℕ) (l : paper.Line) (r : Option cl.Broken
     arm_8 o q f = end 8 o (q ∙ ap (cl.broken_at 9 b i) f)
 
   -- an input: 5 before 6
-  pub arm_5 : (v w : Option cl.Broken) (five six : Option ℕ) → l.op ≡ 5 → r ≡ or_else v w → v ≡ cl.broken_at 5 b i five → w ≡ cl.broken_at 6 b i six
-      → five ≡ cl.clause5 e b l → six ≡ cl.clause6 e boxes b l → LineFound e boxes b i l r
+  pub arm_five : (z : cl.Broken) (v : Option ℕ) → l.op ≡ 5 → r ≡ some z → some z ≡ cl.broken_at 5 b i v → v ≡ cl.clause5 e b l → LineFound e boxes b i l r
   unfolding asked_of ◌is◌
-  arm_5 v w five six o q ev ew f s =
-      end 5 o (q ∙ ap₂ or_else (ev ∙ ap (cl.broken_at 5 b i) f) (ew ∙ ap (cl.broken_at 6 b i) s ∙ sym (last (cl.broken_at 6 b i (cl.clause6 e boxes b l)))))
+  arm_five z v o q ez f =
+      end 5 o (q ∙ ap (λ (x : Option cl.Broken). or_else x (or_else (cl.broken_at 6 b i (cl.clause6 e boxes b l)) none)) (ez ∙ ap (cl.broken_at 5 b i) f))
+
+  pub arm_six : (v w : Option ℕ) → l.op ≡ 5 → r ≡ cl.broken_at 6 b i w → none ≡ cl.broken_at 5 b i v → v ≡ cl.clause5 e b l → w ≡ cl.clause6 e boxes b l → LineFound e boxes b i l r
+  unfolding asked_of ◌is◌
+  arm_six v w o q z f g =
+      end 5 o (q ∙ ap (cl.broken_at 6 b i) g ∙ sym (last (cl.broken_at 6 b i (cl.clause6 e boxes b l)))
+      ∙ ap (λ (x : Option cl.Broken). or_else x (or_else (cl.broken_at 6 b i (cl.clause6 e boxes b l)) none)) (z ∙ ap (cl.broken_at 5 b i) f))
 
 -- any other operation
 pub arm_none : (e : Estimate) (boxes b i : ℕ) (l : paper.Line) → (l.op ≡ 3 → ⊥) → (l.op ≡ 4 → ⊥) → (l.op ≡ 5 → ⊥) → (l.op ≡ 6 → ⊥)
@@ -212,8 +191,6 @@ module _ (e : Estimate) (boxes b : ℕ) (l : paper.Line) (g : Gathered) where
     pub may_6 : l.op ≡ 5 → MetWhere (within g.asks (e.rho l.name2)) (cl.clause6 e boxes b l)
     may_6 = d.six
 
-pub ruleset clauses-1 = (rules, at_yes, at-lacks, names_yes)
-
-pub ruleset arms = (rules, box_512, box_1024, names_62, nothing_else, arm_3, arm_4, arm_5, arm_6, arm_7, arm_8, arm_none)
+pub ruleset arms = (rules, box_512, box_1024, names_62, may_4, may_5, may_6, arm_3, arm_4, arm_five, arm_six, arm_6, arm_7, arm_8, arm_none)
 
 pub ruleset gathered = (rules, rho_names, box_62, names_62, second_62, gathered_4, gathered_5, gathered_other)

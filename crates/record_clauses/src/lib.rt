@@ -5,18 +5,12 @@ use sets::NameNo;
 pub mod lines;
 pub mod names;
 
-// A broken clause: its number, its box (0 for clause 1), its record: a name, a site or a line; and the name that is missing.
-#[derive(Clone, Copy)]
+// A broken clause: its number, its box (0 for clause 1), its record: a name, a site or a line; and the name that is missing. A
+// clause goes by its number, as in the paper and in what is written.
+#[derive(Clone, Copy, Debug, PartialEq, Eq)]
 pub struct Broken {
     pub clause: u8,
     pub boxno: usize,
     pub place: usize,
     pub name: NameNo,
-}
-
-// The first broken clause, if there is one.
-#[derive(Clone, Copy)]
-pub enum Found {
-    Nothing,
-    First(Broken),
 }

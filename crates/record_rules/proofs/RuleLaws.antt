@@ -1,8 +1,8 @@
 -- Laws of the tests of one record: from sets and flags to the paper's rules. Assumes nothing.
 use mathlib.Core.Path.{◌≡◌, refl, sym, ap, ap₂, ◌∙◌, subst}
-use mathlib.Core.Bool.{Bool, true, false, not}
+use mathlib.Core.Bool.{Bool, true, false, not, ◌&&◌, ◌||◌}
 use mathlib.Core.List.{List}
-use mathlib.Core.Logic.{◌⊎◌, inl, inr, ⊎_elim}
+use mathlib.Core.Logic.{◌⊎◌, inl, inr}
 use Prim.Native.Nat.{ℕ, ◌-◌, ◌^◌, ◌≤◌, ◌<◌}
 use native.Mathlib.Omega.{arith}
 use native.Mathlib.Decide.{dec_lt}
@@ -14,12 +14,11 @@ use Rattle.definitions.specs.Bounded.{◌and◌, ◌or◌, ◌implies◌, ◌is�
 use Rattle.definitions.specs.Sets.{has, within, meets}
 use Rattle.definitions.specs.Model.{Site, Line, box_at, listed, is_free, kind_of_name, has_child, binds, bound_above}
 use Rattle.definitions.specs.ReadModel.{type_fits, used_before, site_fits, uses_name1, uses_name2, uses_child1, line_fits, uses, bound_before, reach_fits}
-use Rattle.definitions.proofs.Bounded.{tests, and_iff, or_iff, implies_iff, is_iff, below_iff, all_iff, true_of, false_of, of_true, not-false, same_test, decide}
+use Rattle.definitions.proofs.Bounded.{tests, and_iff, or_iff, implies_iff, is_iff, below_iff, all_iff, true_of, false_of, of_true, not-false, same_test, decide, and_is, or_is}
 use Rattle.definitions.proofs.Faults.{not_iff}
-use Rattle.definitions.proofs.Loops.{fails, holds}
 use Rattle.definitions.proofs.Sets.{has_above, within_iff, meets_iff, and-true, or_assoc, or-false}
 use Rattle.record_rules.specs.declared.line_sets.LineSet.{LineSet}
-use Rattle.records.specs.NameSets.{SetOf, insert_if}
+use Rattle.records.specs.NameSets.{SetOf}
 use Rattle.record_rules.specs.Rules.{is_free_or_unlisted, site_ok, shape_fit, names_fit, bound_fit, expose_fit, line_ok, tree_ok, DecidesSite, DecidesLine, DecidesChild, DecidesTree, DecidesReach}
 use Rattle.record_rules.specs.LineSets.{line_is, insert_line, insert_children, LineSetOf}
 
@@ -67,43 +66,69 @@ site_decided s free used f u x y z type r few ef eu ex ey ez et er = record {
                 ap (λ (t : Bool). t and not v and leb s.flag 1 and eqb s.spare 0 and type_fits p s.subject s.type)
                 (false_of (p s.subject) n)
 
+pub site_joined : (s : Site) (free used : ℕ) (f u type : Bool) → free < 2 ^ 64 → f ≡ has free s.subject → u ≡ has used s.subject
+    → type ≡ type_fits (has free) s.subject s.type → DecidesSite s free used ((((f && not u) && leb s.flag 1) && eqb s.spare 0) && type)
+site_joined s free used f u type few ef eu et =
+    site_decided s free used f u (f && not u) ((f && not u) && leb s.flag 1) (((f && not u) && leb s.flag 1) && eqb s.spare 0) type _
+    few ef eu (and_is _ _) (and_is _ _) (and_is _ _) et (and_is _ _)
+
 -- ---- 7
 
-pub shape_is : (l : Line) (known c1 c2 children r : Bool) → r ≡ (known and children) → known ≡ (leb l.op 8 and eqb l.spare 0)
-    → children ≡ (c1 and c2) → c1 ≡ (not (not (eqb l.op 0)) implies eqb l.child1 0) → c2 ≡ (not (eqb l.op 1) implies eqb l.child2 0)
-    → r ≡ shape_fit l
-unfolding shape_fit uses_child1 ◌is◌ ◌isnt◌ ◌upto◌
-shape_is l known c1 c2 children r e1 e2 e3 e4 e5 = cc
+-- a test asked where another passes, and where it fails
+implied : (a b : Bool) → (a || b) ≡ (not a implies b)
+unfolding ◌implies◌
+implied true b = refl
+implied false b = refl
 
-pub names_is : (all : ℕ → Bool) (l : Line) (second-used a b first second r : Bool) → r ≡ (first and second)
-    → first ≡ ((leb 3 l.op implies a) and (not (leb 3 l.op) implies eqb l.name1 0))
-    → second ≡ ((second-used implies b) and (not second-used implies eqb l.name2 0)) → a ≡ all l.name1 → b ≡ all l.name2
-    → second-used ≡ (eqb l.op 4 or eqb l.op 5) → r ≡ names_fit all l
-unfolding names_fit uses_name1 uses_name2 ◌is◌ ◌upto◌
-names_is all l second-used a b first second r e1 e2 e3 e4 e5 e6 = cc
-
-pub bound-is : (p q : ℕ → Bool) (l : Line) (a b one second-used r : Bool) → r ≡ (one and second-used) → one ≡ (eqb l.op 3 implies a) → a ≡ p l.name1
-    → second-used ≡ (eqb l.op 5 implies b) → b ≡ q l.name2 → r ≡ bound_fit p q l
-unfolding bound_fit ◌is◌
-bound-is p q l a b one second-used r e1 e2 e3 e4 e5 = cc
+required : (a b : Bool) → (not a || b) ≡ (a implies b)
+unfolding ◌implies◌
+required true b = refl
+required false b = refl
 
 -- a rule by a test: where it is met the first part alone is asked, and else the second
-rule_yes : (c a b : Bool) → c ≡ true → a ≡ ((c implies a) and (not c implies b))
+pub rule_yes : (c a b : Bool) → c ≡ true → a ≡ ((c implies a) and (not c implies b))
 unfolding ◌and◌ ◌implies◌
 rule_yes true true b e = refl
 rule_yes true false b e = refl
 rule_yes false a b e = absurd (of_true e)
 
-rule_no : (c a b : Bool) → c ≡ false → b ≡ ((c implies a) and (not c implies b))
+pub rule_no : (c a b : Bool) → c ≡ false → b ≡ ((c implies a) and (not c implies b))
 unfolding ◌and◌ ◌implies◌
 rule_no true a b e = absurd (not-false e tt)
 rule_no false a b e = refl
 
-pub expose_yes : (p q : ℕ → Bool) (l : Line) (a type r : Bool) → l.op ≡ 6 → a ≡ q l.name1 → type ≡ type_fits p l.name1 l.type
-    → r ≡ (a and type) → r ≡ expose_fit p q l
+pub shape_is : (l : Line) → ((leb l.op 8 && eqb l.spare 0) && ((not (eqb l.op 0) || eqb l.child1 0) && (eqb l.op 1 || eqb l.child2 0))) ≡ shape_fit l
+unfolding shape_fit uses_child1 ◌is◌ ◌isnt◌ ◌upto◌
+shape_is l =
+    (simp and_is)
+    ∙ ap₂ (λ (s t : Bool). (leb l.op 8 and eqb l.spare 0) and (s and t)) (implied (not (eqb l.op 0)) (eqb l.child1 0)) (implied (eqb l.op 1) (eqb l.child2 0))
+
+names_by : (all : ℕ → Bool) (l : Line) (second-used a b first second r : Bool) → r ≡ (first and second)
+    → first ≡ ((leb 3 l.op implies a) and (not (leb 3 l.op) implies eqb l.name1 0))
+    → second ≡ ((second-used implies b) and (not second-used implies eqb l.name2 0)) → a ≡ all l.name1 → b ≡ all l.name2
+    → second-used ≡ (eqb l.op 4 or eqb l.op 5) → r ≡ names_fit all l
+unfolding names_fit uses_name1 uses_name2 ◌is◌ ◌upto◌
+names_by all l second-used a b first second r e1 e2 e3 e4 e5 e6 = cc
+
+pub names_is : (all : ℕ → Bool) (l : Line) (a b first second : Bool) → first ≡ ((leb 3 l.op implies a) and (not (leb 3 l.op) implies eqb l.name1 0))
+    → second ≡ (((eqb l.op 4 || eqb l.op 5) implies b) and (not (eqb l.op 4 || eqb l.op 5) implies eqb l.name2 0)) → a ≡ all l.name1 → b ≡ all l.name2
+    → (first && second) ≡ names_fit all l
+names_is all l a b first second e f g h = names_by all l _ a b first second _ (and_is first second) e f g h (or_is _ _)
+
+bound_by : (p q : ℕ → Bool) (l : Line) (a b one second r : Bool) → r ≡ (one and second) → one ≡ (eqb l.op 3 implies a) → a ≡ p l.name1
+    → second ≡ (eqb l.op 5 implies b) → b ≡ q l.name2 → r ≡ bound_fit p q l
+unfolding bound_fit ◌is◌
+bound_by p q l a b one second r e1 e2 e3 e4 e5 = cc
+
+pub bound-is : (p q : ℕ → Bool) (l : Line) (a b : Bool) → a ≡ p l.name1 → b ≡ q l.name2
+    → ((not (eqb l.op 3) || a) && (not (eqb l.op 5) || b)) ≡ bound_fit p q l
+bound-is p q l a b e f = bound_by p q l a b _ _ _ (and_is _ _) (required _ _) e (required _ _) f
+
+pub expose_yes : (p q : ℕ → Bool) (l : Line) (a type : Bool) → l.op ≡ 6 → a ≡ q l.name1 → type ≡ type_fits p l.name1 l.type
+    → (a && type) ≡ expose_fit p q l
 unfolding expose_fit ◌is◌ ◌isnt◌
-expose_yes p q l a type r o ea et er =
-    er ∙ ap₂ ◌and◌ ea et
+expose_yes p q l a type o ea et =
+    and_is a type ∙ ap₂ ◌and◌ ea et
     ∙ rule_yes (eqb l.op 6) (q l.name1 and type_fits p l.name1 l.type) (eqb l.type 0) (eq-eqb l.op 6 o)
 
 pub expose_no : (p q : ℕ → Bool) (l : Line) (r : Bool) → (l.op ≡ 6 → ⊥) → r ≡ eqb l.type 0 → r ≡ expose_fit p q l
@@ -166,6 +191,12 @@ line_decided l a r c e shape names fields bound shown x fits e1 e2 e3 e4 e5 e6 e
   where
     raw : fits ≡ line_ok (has a) (has r) (has c) (has e) l
     raw = cc
+
+pub line_joined : (l : Line) (a r c e : ℕ) (shape names bound shown : Bool) → shape ≡ shape_fit l → names ≡ names_fit (has a) l
+    → bound ≡ bound_fit (has r) (has c) l → shown ≡ expose_fit (has a) (has e) l → a < 2 ^ 64 → r < 2 ^ 64 → c < 2 ^ 64 → e < 2 ^ 64
+    → DecidesLine l a r c e (((shape && names) && bound) && shown)
+line_joined l a r c e shape names bound shown f g h k fa fr fc fe =
+    line_decided l a r c e shape names (shape && names) bound shown ((shape && names) && bound) _ (and_is _ _) (and_is _ _) (and_is _ _) f g h k fa fr fc fe
 
 -- ---- 8
 
@@ -262,18 +293,19 @@ module _ (k : LineSet) (l : Line) where
         ∙ sym (ap₂ (λ (t u : Bool). x or (not t and (y or (u and z)))) (ne_eqb l.op 0 (λ e. absurd (omega arith))) (eq-eqb l.op 1 o));
   }
 
-module _ (i c n : ℕ) (seen : LineSet) (a : Bool) (ea : a ≡ (ltb i c and ltb c n)) where
-  pub child_in_lem : (k : Bool) → a ≡ true → (c < 128 → k ≡ line_is seen.low seen.high c) → DecidesChild i c n seen (not k)
+module _ (i c n : ℕ) (seen : LineSet) where
+  pub child_in : (k : Bool) → (ltb i c && ltb c n) ≡ true → (c < 128 → k ≡ line_is seen.low seen.high c) → DecidesChild i c n seen (not k)
   unfolding ◌below◌ ◌and◌
-  child_in_lem k ok ek = record {
+  child_in k ok ek = record {
     decides = λ p children few.
-        let l : c < n = (below_iff c n).0 ((and_iff (ltb i c) (ltb c n)).0 (of_true (sym ea ∙ ok))).1 in
-        ap not (ek (omega arith) ∙ children.at c (omega arith)) ∙ sym (ap (λ (t : Bool). t and not (p c)) (sym ea ∙ ok));
+        let both : (ltb i c and ltb c n) ≡ true = sym (and_is (ltb i c) (ltb c n)) ∙ ok in
+        let l : c < n = (below_iff c n).0 ((and_iff (ltb i c) (ltb c n)).0 (of_true both)).1 in
+        ap not (ek (omega arith) ∙ children.at c (omega arith)) ∙ sym (ap (λ (t : Bool). t and not (p c)) both);
   }
 
-  pub child_out : a ≡ false → DecidesChild i c n seen false
+  pub child_out : (ltb i c && ltb c n) ≡ false → DecidesChild i c n seen false
   unfolding ◌below◌ ◌and◌
-  child_out no-child = record { decides = λ p children few. sym (ap (λ (t : Bool). t and not (p c)) (sym ea ∙ no-child)) }
+  child_out out = record { decides = λ p children few. sym (ap (λ (t : Bool). t and not (p c)) (sym (and_is (ltb i c) (ltb c n)) ∙ out)) }
 
 -- ---- a line in its tree, by the test that decides it: z, nil; o, parallel; f and s, its children; c, it is a child
 
@@ -297,59 +329,57 @@ module _ (z o f s c : Bool) where
   unfolding ◌and◌ ◌implies◌
   in_tree-two ez eo ef ec = sym ((λ i. in_tree (ez i) (eo i) (ef i) s (ec i)) ∙ and-true s)
 
-pub tree-first : (l : Line) (i n : ℕ) (seen all : LineSet) (f : Bool) → (l.op ≡ 0 → ⊥) → DecidesChild i l.child1 n seen f → not f ≡ true
+pub tree-first : (l : Line) (i n : ℕ) (seen all : LineSet) (f : Bool) → (l.op ≡ 0 → ⊥) → DecidesChild i l.child1 n seen f → f ≡ false
     → DecidesTree l i n seen all false
 unfolding tree_ok ◌is◌ ◌isnt◌
 tree-first l i n seen all f o first e = record {
-  decides = λ p q few low before s. in_tree-first _ _ _ _ _ (ne_eqb l.op 0 o) (sym (first.decides p before few) ∙ fails f e);
+  decides = λ p q few low before s. in_tree-first _ _ _ _ _ (ne_eqb l.op 0 o) (sym (first.decides p before few) ∙ e);
 }
 
-module _ (l : Line) (i n : ℕ) (seen all : LineSet) (h child : Bool) (eh : i < 128 → h ≡ line_is all.low all.high i)
-    (ek : child ≡ (not (eqb i 0) implies h)) where
-  named : (q : ℕ → Bool) → n ≤ 124 → i < n → LineSetOf all q → (not (eqb i 0) implies q i) ≡ child
-  named q few low s = sym (ek ∙ ap (λ (t : Bool). not (eqb i 0) implies t) (eh (omega arith) ∙ s.at i (omega arith)))
+module _ (l : Line) (i n : ℕ) (seen all : LineSet) (h : Bool) (eh : i < 128 → h ≡ line_is all.low all.high i) where
+  named : (q : ℕ → Bool) → n ≤ 124 → i < n → LineSetOf all q → (not (eqb i 0) implies q i) ≡ (eqb i 0 || h)
+  named q few low s = sym (implied (eqb i 0) h ∙ ap (λ (t : Bool). not (eqb i 0) implies t) (eh (omega arith) ∙ s.at i (omega arith)))
 
-  pub tree-unnamed : not child ≡ true → DecidesTree l i n seen all false
+  pub tree-unnamed : (eqb i 0 || h) ≡ false → DecidesTree l i n seen all false
   unfolding tree_ok ◌is◌ ◌isnt◌
   tree-unnamed e = record {
     decides = λ p q few low before s.
-        sym (false_of (tree_ok l i n p q) (λ t. not-false (named q few low s ∙ fails child e) ((and_iff _ (not (eqb i 0) implies q i)).0 t).1));
+        sym (false_of (tree_ok l i n p q) (λ t. not-false (named q few low s ∙ e) ((and_iff _ (not (eqb i 0) implies q i)).0 t).1));
   }
 
-  pub tree-nil : not child ≡ false → l.op ≡ 0 → DecidesTree l i n seen all true
+  pub tree-nil : (eqb i 0 || h) ≡ true → l.op ≡ 0 → DecidesTree l i n seen all true
   unfolding tree_ok ◌is◌ ◌isnt◌
   tree-nil e o = record {
     decides = λ p q few low before s.
-        in_tree-nil _ _ _ _ _ (eq-eqb l.op 0 o) (ne_eqb l.op 1 (λ u. absurd (omega arith))) (named q few low s ∙ holds child e);
+        in_tree-nil _ _ _ _ _ (eq-eqb l.op 0 o) (ne_eqb l.op 1 (λ u. absurd (omega arith))) (named q few low s ∙ e);
   }
 
-  module _ (f : Bool) (e : not child ≡ false) (o : l.op ≡ 0 → ⊥) (first : DecidesChild i l.child1 n seen f) (ef : not f ≡ false) where
+  module _ (f : Bool) (e : (eqb i 0 || h) ≡ true) (o : l.op ≡ 0 → ⊥) (first : DecidesChild i l.child1 n seen f) (ef : f ≡ true) where
     pub tree-one : (l.op ≡ 1 → ⊥) → DecidesTree l i n seen all true
     unfolding tree_ok ◌is◌ ◌isnt◌
     tree-one u = record {
       decides = λ p q few low before s.
-          in_tree-one _ _ _ _ _ (ne_eqb l.op 0 o) (ne_eqb l.op 1 u) (sym (first.decides p before few) ∙ holds f ef) (named q few low s ∙ holds child e);
+          in_tree-one _ _ _ _ _ (ne_eqb l.op 0 o) (ne_eqb l.op 1 u) (sym (first.decides p before few) ∙ ef) (named q few low s ∙ e);
     }
 
-    pub tree-two : (g r : Bool) → l.op ≡ 1 → DecidesChild i l.child2 n seen g → r ≡ (g and not (eqb l.child1 l.child2))
-        → DecidesTree l i n seen all r
+    pub tree-two : (g : Bool) → l.op ≡ 1 → DecidesChild i l.child2 n seen g → DecidesTree l i n seen all (g && not (eqb l.child1 l.child2))
     unfolding tree_ok ◌is◌ ◌isnt◌
-    tree-two g r u second er = record {
+    tree-two g u second = record {
       decides = λ p q few low before s.
-          er ∙ ap (λ (t : Bool). t and not (eqb l.child1 l.child2)) (second.decides p before few)
-          ∙ in_tree-two _ _ _ _ _ (ne_eqb l.op 0 o) (eq-eqb l.op 1 u) (sym (first.decides p before few) ∙ holds f ef) (named q few low s ∙ holds child e);
+          and_is g _ ∙ ap (λ (t : Bool). t and not (eqb l.child1 l.child2)) (second.decides p before few)
+          ∙ in_tree-two _ _ _ _ _ (ne_eqb l.op 0 o) (eq-eqb l.op 1 u) (sym (first.decides p before few) ∙ ef) (named q few low s ∙ e);
     }
 
 -- ---- 9
 
-pub reach_decided : (l : Line) (free-or-unlisted above bound us v bs : ℕ) (w mt r : Bool) → SetOf us (uses l) → ((n : ℕ) → has v n ≡ (has free-or-unlisted n or has above n))
-    → w ≡ within us v → SetOf bs (binds l) → mt ≡ meets bs bound → r ≡ (w and not mt) → DecidesReach l free-or-unlisted above bound r
+pub reach_decided : (l : Line) (free-or-unlisted above bound us v bs : ℕ) (w mt : Bool) → SetOf us (uses l) → ((n : ℕ) → has v n ≡ (has free-or-unlisted n or has above n))
+    → w ≡ within us v → SetOf bs (binds l) → mt ≡ meets bs bound → DecidesReach l free-or-unlisted above bound (w && not mt)
 unfolding reach_fits is_free_or_unlisted
-reach_decided l free-or-unlisted above bound us v bs w mt r u un ew bi em er = record {
+reach_decided l free-or-unlisted above bound us v bs w mt u un ew bi em = record {
   decides = λ m b i sp sa sb e.
       let kinds = m.kinds in
       let x = box_at m b in
-      er ∙ ap₂ (λ (s t : Bool). s and not t) ew em
+      and_is w (not mt) ∙ ap₂ (λ (s t : Bool). s and not t) ew em
       ∙ same_test (within us v and not (meets bs bound))
       (all_below 64 (λ n. (uses l n implies kind_of_name kinds n is 0 or bound_above x i n) and (binds l n implies not (bound_before m b i n))))
       (λ t. let p = (and_iff (within us v) (not (meets bs bound))).0 t in
@@ -371,4 +401,4 @@ reach_decided l free-or-unlisted above bound us v bs w mt r u un ew bi em er = r
       ∙ ap (λ (l : Line). all_below 64 (λ n. (uses l n implies kind_of_name kinds n is 0 or bound_above x i n) and (binds l n implies not (bound_before m b i n)))) e;
 }
 
-pub ruleset records = (rules, site_decided, shape_is, names_is, bound-is, expose_yes, expose_no, line_decided, has_low, has_high, has_past, put_low, put_high, put_past, children_none, children_one, children_two, child_in_lem, child_out, tree-first, tree-unnamed, tree-nil, tree-one, tree-two, reach_decided)
+pub ruleset record_laws = (rules, site_joined, shape_is, rule_yes, rule_no, names_is, bound-is, expose_yes, expose_no, line_joined, has_low, has_high, has_past, put_low, put_high, put_past, children_none, children_one, children_two, child_in, child_out, tree-first, tree-unnamed, tree-nil, tree-one, tree-two, reach_decided)

@@ -1,6 +1,6 @@
 -- Sets of the lines of a box, in two words. Assumes nothing.
 use Rattle.std.specs.Prelude.{◌≡◌, Bool, true, false, ℕ, ◌-◌, ◌<◌}
-use Rattle.definitions.specs.Bounded.{◌and◌, ◌or◌, ◌is◌, ◌below◌}
+use Rattle.definitions.specs.Bounded.{◌or◌, ◌is◌, ◌below◌}
 use Rattle.definitions.specs.Sets.{has}
 use Rattle.definitions.specs.Model.{Line, has_child}
 use Rattle.record_rules.specs.declared.line_sets.LineSet.{LineSet}

@@ -7,93 +7,90 @@ ghost use Rattle.records.specs.Records.{site_in, line_in};
 ghost use Rattle.record_rules.specs.Rules.{shape_fit, names_fit, bound_fit, expose_fit, DecidesSite, DecidesLine, DecidesChild, DecidesTree, DecidesReach};
 
 use crate::line_sets::{LineSet, has_line};
-use bools::{both, either, implies};
 use records::names::{binder, type_fits, used};
-use records::{Line, Site};
+use records::{Line, Op, Site};
 
 pub mod line_sets;
 
 // free: the free names; used: the subjects of the sites before.
+#[tactic(auto, using(crate::proofs::RuleLaws::record_laws))]
 pub fn site_fits(s: Site, free: u64, used: u64) -> bool
     ensures { DecidesSite (site_in s) free used result }
 {
-    let fresh = both(
-        sets::contains(free, s.subject),
-        !sets::contains(used, s.subject),
-    );
-    both(
-        both(both(fresh, s.flag <= 1), s.spare == 0),
-        type_fits(free, s.subject, s.names),
-    )
+    let fresh = sets::contains(free, s.subject) & !sets::contains(used, s.subject);
+    fresh & (s.flag <= 1) & (s.spare == 0) & type_fits(free, s.subject, s.names)
 }
 
 // A field passes a test where it is used, and is else zero.
+#[tactic(auto, using(crate::proofs::RuleLaws::record_laws))]
 fn field_fits(used: bool, ok: bool, zero: bool) -> bool
     ensures { result ≡ ((used implies ok) and (not used implies zero)) }
 {
-    both(implies(used, ok), implies(!used, zero))
+    if used { ok } else { zero }
 }
 
 // A known operation; the spare byte, and the children that it does not use, are zero.
+#[tactic(auto, using(crate::proofs::RuleLaws::record_laws))]
 fn shape_fits(l: Line) -> bool
     ensures { result ≡ shape_fit (line_in l) }
 {
-    let known = both(l.op <= 8, l.spare == 0);
-    let children = both(
-        implies(!(l.op != 0), l.child1 == 0),
-        implies(l.op != 1, l.child2 == 0),
-    );
-    both(known, children)
+    let known = (l.op <= Op::Unhide as u8) & (l.spare == 0);
+    let first = (l.op != Op::Nil as u8) | (l.child1 == 0);
+    let second = (l.op == Op::Parallel as u8) | (l.child2 == 0);
+    known & (first & second)
 }
 
 // Each name that the operation uses is listed, and else zero.
+#[tactic(auto, using(crate::proofs::RuleLaws::record_laws))]
 fn names_fit(l: Line, all: u64) -> bool
     ensures { result ≡ names_fit (names.has all) (line_in l) }
 {
-    let first = field_fits(3 <= l.op, sets::contains(all, l.name1), l.name1.0 == 0);
-    let second_used = either(l.op == 4, l.op == 5);
+    let first = field_fits(
+        Op::Restriction as u8 <= l.op,
+        sets::contains(all, l.name1),
+        l.name1.0 == 0,
+    );
+    let second_used = (l.op == Op::Output as u8) | (l.op == Op::Input as u8);
     let second = field_fits(second_used, sets::contains(all, l.name2), l.name2.0 == 0);
-    both(first, second)
+    first & second
 }
 
 // A restriction's name and an input's second are of the kinds bound there.
+#[tactic(auto, using(crate::proofs::RuleLaws::record_laws))]
 fn bound_fits(l: Line, restricted: u64, received: u64) -> bool
     ensures { result ≡ bound_fit (names.has restricted) (names.has received) (line_in l) }
 {
-    let one = implies(l.op == 3, sets::contains(restricted, l.name1));
-    both(one, implies(l.op == 5, sets::contains(received, l.name2)))
+    let one = (l.op != Op::Restriction as u8) | sets::contains(restricted, l.name1);
+    one & ((l.op != Op::Input as u8) | sets::contains(received, l.name2))
 }
 
 // An expose's name is of its kind, and its type fits; any other line has no type.
+#[tactic(auto, using(crate::proofs::RuleLaws::record_laws))]
 fn expose_fits(l: Line, all: u64, exposed: u64) -> bool
     ensures { result ≡ expose_fit (names.has all) (names.has exposed) (line_in l) }
 {
-    if l.op == 6 {
-        both(
-            sets::contains(exposed, l.name1),
-            type_fits(all, l.name1, l.names),
-        )
+    if l.op == Op::Expose as u8 {
+        sets::contains(exposed, l.name1) & type_fits(all, l.name1, l.names)
     } else {
         l.names == 0
     }
 }
 
 // all: the listed names; then those of each kind that a line binds.
+#[tactic(auto, using(crate::proofs::RuleLaws::record_laws))]
 pub fn line_fits(l: Line, all: u64, restricted: u64, received: u64, exposed: u64) -> bool
     ensures { DecidesLine (line_in l) all restricted received exposed result }
 {
-    let fields = both(shape_fits(l), names_fit(l, all));
-    both(
-        both(fields, bound_fits(l, restricted, received)),
-        expose_fits(l, all, exposed),
-    )
+    let fields = shape_fits(l) & names_fit(l, all);
+    fields & bound_fits(l, restricted, received) & expose_fits(l, all, exposed)
 }
 
 // Line c of n as a child of line i; seen: the children of the lines before.
+#[tactic(auto, using(crate::proofs::RuleLaws::record_laws))]
 fn child_fits(i: usize, c: usize, n: usize, seen: LineSet) -> bool
     ensures { DecidesChild i c n seen result }
 {
-    if both(i < c, c < n) {
+    if (i < c) & (c < n) {
         !has_line(seen, c)
     } else {
         false
@@ -101,30 +98,32 @@ fn child_fits(i: usize, c: usize, n: usize, seen: LineSet) -> bool
 }
 
 // seen: the children of the lines before; all: those of all n lines. A child that the operation does not use is not looked at.
+#[tactic(auto, using(crate::proofs::RuleLaws::record_laws))]
 pub fn tree_fits(l: Line, i: usize, n: usize, seen: LineSet, all: LineSet) -> bool
     ensures { DecidesTree (line_in l) i n seen all result }
 {
-    let child = implies(i != 0, has_line(all, i));
+    let child = (i == 0) | has_line(all, i);
     if !child {
         return false;
     }
-    if l.op == 0 {
+    if l.op == Op::Nil as u8 {
         return true;
     }
     if !child_fits(i, l.child1, n, seen) {
         return false;
     }
-    if l.op == 1 {
-        both(child_fits(i, l.child2, n, seen), l.child1 != l.child2)
+    if l.op == Op::Parallel as u8 {
+        child_fits(i, l.child2, n, seen) & (l.child1 != l.child2)
     } else {
         true
     }
 }
 
 // free_or_unlisted: the names that need no binding; above: those bound strictly above the line; bound: those bound by the lines before.
+#[tactic(auto, using(crate::proofs::RuleLaws::record_laws))]
 pub fn reach_fits(l: Line, free_or_unlisted: u64, above: u64, bound: u64) -> bool
     ensures { DecidesReach (line_in l) free_or_unlisted above bound result }
 {
     let reached = sets::is_subset(used(l), sets::union(free_or_unlisted, above));
-    both(reached, !sets::intersects(binder(l), bound))
+    reached & !sets::intersects(binder(l), bound)
 }

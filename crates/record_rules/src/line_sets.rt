@@ -3,7 +3,7 @@ ghost use Rattle.std.specs.Prelude.{◌≡◌, ◌<◌};
 ghost use Rattle.records.specs.Records.{line_in};
 ghost use Rattle.record_rules.specs.LineSets.{line_is, insert_line, insert_children, LineSetOf};
 
-use records::Line;
+use records::{Line, Op};
 
 // A set of the lines 0 to 127: line c is in it where digit c of the two words, low first, is 1.
 #[derive(Clone, Copy)]
@@ -13,6 +13,7 @@ pub struct LineSet {
 }
 
 // Line c is in the set.
+#[tactic(auto, using(crate::proofs::RuleLaws::record_laws))]
 pub fn has_line(s: LineSet, c: usize) -> bool
     ensures { c < 128 → result ≡ line_is s.low s.high c }
 {
@@ -26,6 +27,7 @@ pub fn has_line(s: LineSet, c: usize) -> bool
 }
 
 // The set with line c put in: the set itself where c is above 127.
+#[tactic(auto, using(crate::proofs::RuleLaws::record_laws))]
 fn with_line(s: LineSet, c: usize) -> LineSet
     ensures { LineSetOf result (insert_line s.low s.high c) }
 {
@@ -45,14 +47,15 @@ fn with_line(s: LineSet, c: usize) -> LineSet
 }
 
 // The children of a line put in.
+#[tactic(auto, using(crate::proofs::RuleLaws::record_laws))]
 pub fn with_children(s: LineSet, l: Line) -> LineSet
     ensures { LineSetOf result (insert_children s.low s.high (line_in l)) }
 {
-    if l.op == 0 {
+    if l.op == Op::Nil as u8 {
         return s;
     }
     let first = with_line(s, l.child1);
-    if l.op == 1 {
+    if l.op == Op::Parallel as u8 {
         with_line(first, l.child2)
     } else {
         first

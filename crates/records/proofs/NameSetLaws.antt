@@ -1,6 +1,6 @@
 -- Laws of sets of names by a test, of what a line binds and uses, and of a type. Assumes nothing.
 use mathlib.Core.Path.{◌≡◌, refl, sym, ap, ap₂, ◌∙◌}
-use mathlib.Core.Bool.{Bool, true, false, not}
+use mathlib.Core.Bool.{Bool, true, false, not, ◌&&◌, ◌||◌}
 use Prim.Native.Nat.{ℕ, ◌-◌, ◌^◌, ◌<◌}
 use borrow.Author.Rules.{rules}
 use lib.Dec.{eqb, leb}
@@ -8,6 +8,7 @@ use Rattle.definitions.specs.Bounded.{◌and◌, ◌or◌, ◌is◌, ◌upto◌}
 use Rattle.definitions.specs.Sets.{has, within, size}
 use Rattle.definitions.specs.Model.{Line, binds}
 use Rattle.definitions.specs.ReadModel.{type_fits, uses}
+use Rattle.definitions.proofs.Bounded.{and_is, or_is}
 use Rattle.definitions.proofs.Sets.{has-none, has-not, or-false, within_each}
 use Rattle.records.specs.NameSets.{SetOf, insert_if, set_if, lacks}
 
@@ -39,40 +40,39 @@ pub complement_is : (s : ℕ) → s < 2 ^ 64 → SetOf (2 ^ 64 - 1 - s) (lacks s
 unfolding lacks
 complement_is s h = record { at = λ m l. has-not 64 s m h l }
 
-pub binds-is : (l : Line) (a r : ℕ) (first : Bool) → first ≡ (eqb l.op 3 or eqb l.op 6)
-    → SetOf a (insert_if 0 first l.name1) → SetOf r (insert_if a (eqb l.op 5) l.name2) → SetOf r (binds l)
+-- what a line binds and uses, by tests joined with `|`
+pub binds-is : (l : Line) (a r : ℕ) → SetOf a (insert_if 0 (eqb l.op 3 || eqb l.op 6) l.name1) → SetOf r (insert_if a (eqb l.op 5) l.name2)
+    → SetOf r (binds l)
 unfolding insert_if binds ◌is◌
-binds-is l a r first e f g = record {
+binds-is l a r f g = record {
   at = λ m h. g.at m h
       ∙ ap (λ (t : Bool). t or (eqb l.op 5 and eqb l.name2 m))
       (f.at m h
-      ∙ ap₂ (λ (s t : Bool). s or (t and eqb l.name1 m)) (has-none m) e
+      ∙ ap₂ (λ (s t : Bool). s or (t and eqb l.name1 m)) (has-none m) (or_is (eqb l.op 3) (eqb l.op 6))
       ∙ false-or ((eqb l.op 3 or eqb l.op 6) and eqb l.name1 m));
 }
 
-pub uses-is : (l : Line) (a b w r : ℕ) (p q channel : Bool) → p ≡ (eqb l.op 4 or eqb l.op 5) → q ≡ (p or eqb l.op 7) → channel ≡ (q or eqb l.op 8)
-    → SetOf a (insert_if 0 channel l.name1) → SetOf b (insert_if a (eqb l.op 4) l.name2)
-    → SetOf w (set_if (eqb l.op 6) l.type) → ((m : ℕ) → has r m ≡ (has b m or has w m)) → SetOf r (uses l)
+pub uses-is : (l : Line) (a b w r : ℕ) → SetOf a (insert_if 0 (((eqb l.op 4 || eqb l.op 5) || eqb l.op 7) || eqb l.op 8) l.name1)
+    → SetOf b (insert_if a (eqb l.op 4) l.name2) → SetOf w (set_if (eqb l.op 6) l.type) → ((m : ℕ) → has r m ≡ (has b m or has w m)) → SetOf r (uses l)
 unfolding insert_if set_if uses ◌is◌
-uses-is l a b w r p q channel ep eq e f g h k = record {
+uses-is l a b w r f g h k = record {
   at = λ m l'. k m
       ∙ ap₂ ◌or◌
       (g.at m l'
       ∙ ap (λ (t : Bool). t or (eqb l.op 4 and eqb l.name2 m))
       (f.at m l'
-      ∙ ap₂ (λ (s t : Bool). s or (t and eqb l.name1 m)) (has-none m)
-      (e ∙ ap (λ (t : Bool). t or eqb l.op 8) (eq ∙ ap (λ (t : Bool). t or eqb l.op 7) ep))
+      ∙ ap₂ (λ (s t : Bool). s or (t and eqb l.name1 m)) (has-none m) (simp or_is)
       ∙ false-or ((eqb l.op 4 or eqb l.op 5 or eqb l.op 7 or eqb l.op 8) and eqb l.name1 m)))
       (h.at m l');
 }
 
 -- ---- a type
 
-pub type_is_lem : (ok subject names n : ℕ) (w h a b r : Bool) → n ≡ size names → w ≡ within names ok → h ≡ has names subject
-    → a ≡ (leb 1 n and leb n 8) → b ≡ (a and w) → r ≡ (b and not h) → r ≡ type_fits (has ok) subject names
+pub type_is : (ok subject names n : ℕ) (w h : Bool) → n ≡ size names → w ≡ within names ok → h ≡ has names subject
+    → (((leb 1 n && leb n 8) && w) && not h) ≡ type_fits (has ok) subject names
 unfolding type_fits ◌upto◌
-type_is_lem ok subject names n w h a b r en ew eh ea eb er =
-    er
-    ∙ ap₂ (λ (s t : Bool). s and not t) (eb ∙ ap₂ ◌and◌ (ea ∙ ap (λ (x : ℕ). leb 1 x and leb x 8) en) (ew ∙ within_each names ok)) eh
+type_is ok subject names n w h en ew eh =
+    (simp and_is)
+    ∙ ap₂ (λ (s t : Bool). s and not t) (ap₂ ◌and◌ (ap (λ (x : ℕ). leb 1 x and leb x 8) en) (ew ∙ within_each names ok)) eh
 
-pub ruleset sets-of-names = (rules, insert_yes, insert_no, set_yes, set_no, complement_is, binds-is, uses-is, type_is_lem)
+pub ruleset name_sets = (rules, insert_yes, insert_no, set_yes, set_no, complement_is, type_is)

@@ -9,22 +9,21 @@ use crate::{Line, Site};
 use sets::NameNo;
 
 // The kind of a name of the list.
+#[tactic(auto, using(definitions::proofs::Image::kind_of))]
 pub fn kind(image: &[u8], n: NameNo) -> u64
-    requires { (512 ≤ length image.now) × (n.0 < name_count image.now) × (n.0 < 60) }
+    requires there { 512 ≤ length image.now }
+    requires listed { n.0 < name_count image.now }
+    requires few { n.0 < 60 }
     ensures { result ≡ model.kind_of_name (kinds_of image.now) n.0 }
 {
-    blocks::inside::data_word(image, 0, 2 + wide(n.0))
-}
-
-fn wide(n: u8) -> usize
-    ensures { result ≡ n }
-{
-    n as usize
+    blocks::inside::data_word(image, 0, 2 + usize::from(n.0))
 }
 
 // Record i of a block of sites.
+#[tactic(auto, using(definitions::proofs::Image::site_of))]
 pub fn site(image: &[u8], k: usize, i: usize) -> Site
-    requires { (512 * (k + 1) ≤ length image.now) × (i < 31) }
+    requires there { 512 * (k + 1) ≤ length image.now }
+    requires inside { i < 31 }
     ensures { site_in result ≡ site_record (block_of image.now k) i }
 {
     let w = blocks::inside::data_word(image, k, 2 * i);

@@ -5,6 +5,29 @@ use sets::NameNo;
 pub mod inside;
 pub mod names;
 
+// The operations of lines.
+#[derive(Clone, Copy, PartialEq, Eq)]
+pub enum Op {
+    Nil = 0,
+    Parallel = 1,
+    Replication = 2,
+    Restriction = 3,
+    Output = 4,
+    Input = 5,
+    Expose = 6,
+    Hide = 7,
+    Unhide = 8,
+}
+
+// The kinds of names.
+#[derive(Clone, Copy, PartialEq, Eq)]
+pub enum NameKind {
+    Free = 0,
+    Restricted = 1,
+    Received = 2,
+    Exposed = 3,
+}
+
 // A site's record; names is its type.
 #[derive(Clone, Copy)]
 pub struct Site {

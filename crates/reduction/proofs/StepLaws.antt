@@ -1,5 +1,5 @@
 -- The refusals before a first move, and one move. Assumes nothing.
-use mathlib.Core.Path.{◌≡◌, refl, sym, ap, ap₂, ◌∙◌}
+use mathlib.Core.Path.{◌≡◌, refl, sym, ap, ◌∙◌}
 use mathlib.Core.Logic.{◌≢◌}
 use mathlib.Core.Bool.{Bool, not}
 use mathlib.Core.List.{List}
@@ -15,100 +15,85 @@ use Rattle.definitions.specs.ReadModel.{read_model}
 use Rattle.definitions.specs.StateRules.{state_fits}
 use Rattle.definitions.specs.Moves.{Outcome, refused, made, act}
 use Rattle.definitions.specs.Calls.{written, outcome_number, outcome_words, outcome_refusal, moves_refusal, state_refusal, step}
-use Rattle.definitions.proofs.Bounded.{else_assoc, isnt_iff, true_of}
 use Rattle.definitions.proofs.Calls.{moves_iff}
-use Rattle.refusals.specs.declared.Refusal as code
-use Rattle.refusals.specs.declared.Answer.{Answer}
-use Rattle.refusals.specs.declared.Answer.TheVariants.{NoRefusal, Refused}
-use Rattle.refusals.specs.Answers.{answer_in}
-use Rattle.refusals.proofs.Answers.{no_refusal, is_none, refused_else, first-none}
 use Rattle.lookups.specs.Ready.{PlacesOf, Ready}
 use Rattle.deciding.specs.Numbers.{move_of}
 use Rattle.turns.proofs.Acts.{never_zero}
 
--- ---- the refusals before a first move: a is the model's answer, c that of the lengths, and r the first of both
+-- ---- the refusals before a first move, in order
 
-module _ (image words : List ℕ) (wrong : Bool) (a c r : Answer) (ea : answer_in a ≡ read_model image)
-    (ec : answer_in c ≡ some_if wrong (refusal 10 0 0)) (er : answer_in r ≡ or_else (answer_in a) (answer_in c)) where
-  third : Option Refusal
-  third = some_if (not (state_fits (model_of image) words)) (unplaced 11)
+module _ (image words : List ℕ) (wrong : Bool) where
+  pub early_model : (r : Refusal) → read_model image ≡ some r → some r ≡ moves_refusal image words wrong
+  unfolding moves_refusal
+  early_model r e = sym (ap (λ (o : Option Refusal). or_else o (or_else (some_if wrong (unplaced 10)) (some_if (not (state_fits (model_of image) words)) (unplaced 11)))) e)
 
-  joined : or_else (or_else (read_model image) (some_if wrong (unplaced 10))) third ≡ moves_refusal image words wrong
-  unfolding moves_refusal third
-  joined = else_assoc (read_model image) (some_if wrong (unplaced 10)) third
+  module _ (m : read_model image ≡ none) where
+    pub early_room : (r : Refusal) → some_if wrong (refusal 10 0 0) ≡ some r → some r ≡ moves_refusal image words wrong
+    unfolding moves_refusal
+    early_room r e =
+        sym (ap (λ (o : Option Refusal). or_else o (or_else (some_if wrong (unplaced 10)) (some_if (not (state_fits (model_of image) words)) (unplaced 11)))) m
+        ∙ ap (λ (o : Option Refusal). or_else o (some_if (not (state_fits (model_of image) words)) (unplaced 11))) e)
 
-  pub refused_early : (x : code.Refusal) → r ≡ Refused x → answer_in r ≡ moves_refusal image words wrong
-  refused_early x q =
-      refused_else (or_else (read_model image) (some_if wrong (unplaced 10))) third r x (er ∙ ap₂ or_else ea ec) q ∙ joined
+    pub late : some_if wrong (refusal 10 0 0) ≡ none → (o : Option Refusal) → o ≡ some_if (not (state_fits (model_of image) words)) (refusal 11 0 0)
+        → o ≡ moves_refusal image words wrong
+    unfolding moves_refusal
+    late w o e =
+        e ∙ sym (ap (λ (p : Option Refusal). or_else p (or_else (some_if wrong (unplaced 10)) (some_if (not (state_fits (model_of image) words)) (unplaced 11)))) m
+        ∙ ap (λ (p : Option Refusal). or_else p (some_if (not (state_fits (model_of image) words)) (unplaced 11))) w)
 
-  module _ (q : r ≡ NoRefusal) where
-    pub early_read : read_model image ≡ none
-    early_read = is_none (read_model image) a ea (first-none a c r er q)
+  -- no refusal: the model is read, and the words obey the state rules
+  module _ (e : moves_refusal image words wrong ≡ none) where
+    pub unrefused_read : read_model image ≡ none
+    unrefused_read = ((moves_iff image words wrong).0 e).0
 
-    pub early_model : a ≡ NoRefusal
-    early_model = first-none a c r er q
-
-    pub refused-last : (f : Bool) (d : Answer) → f ≡ state_fits (model_of image) words → answer_in d ≡ some_if (not f) (refusal 11 0 0)
-        → answer_in d ≡ moves_refusal image words wrong
-    unfolding third
-    refused-last f d e g =
-        g ∙ ap (λ (t : Bool). some_if (not t) (refusal 11 0 0)) e
-        ∙ ap (λ (o : Option Refusal). or_else o third) (no_refusal _ r (er ∙ ap₂ or_else ea ec) q) ∙ joined
-
--- no refusal: the model is read, and the words obey the state rules
-module _ (image words : List ℕ) (wrong : Bool) (r : Answer) (e : answer_in r ≡ moves_refusal image words wrong) (q : r ≡ NoRefusal) where
-  passes : moves_refusal image words wrong ≡ none
-  passes = is_none (moves_refusal image words wrong) r e q
-
-  pub unrefused_read : read_model image ≡ none
-  unrefused_read = ((moves_iff image words wrong).0 passes).0
-
-  pub unrefused_ready : (places : ℕ) → PlacesOf image places → Ready image places words
-  unrefused_ready places p = record { read = unrefused_read; placed = p; fits = ((moves_iff image words wrong).0 passes).1.1 }
+    pub unrefused_ready : (places : ℕ) → PlacesOf image places → Ready image places words
+    unrefused_ready places p = record { read = unrefused_read; placed = p; fits = ((moves_iff image words wrong).0 e).1.1 }
 
 -- ---- one move
 
-module _ (image words : List ℕ) (kind b t c u : ℕ) (r : Answer) (e : answer_in r ≡ moves_refusal image words (not (eqb (length words) 9112))) where
-  same-refusal : answer_in r ≡ state_refusal image words
-  unfolding state_refusal ◌isnt◌
-  same-refusal = e
+module _ (image words : List ℕ) (kind b t c u : ℕ) where
+  abbrev outcome : Outcome (List ℕ)
+  outcome = act (model_of image) words (move_of kind b t c u)
 
-  pub step-refused : (x : code.Refusal) → r ≡ Refused x → answer_in r ≡ (step image words (move_of kind b t c u)).answer
-  unfolding step
-  step-refused x q = refused_else (state_refusal image words) (outcome_refusal (act (model_of image) words (move_of kind b t c u))) r x same-refusal q
+  module _ (r : Refusal) (e : some r ≡ moves_refusal image words (not (eqb (length words) 9112))) where
+    early : state_refusal image words ≡ some r
+    unfolding state_refusal ◌isnt◌
+    early = sym e
 
-  pub step_kept : (x : code.Refusal) → r ≡ Refused x → words ≡ (step image words (move_of kind b t c u)).words
-  unfolding step
-  step_kept x q = ap (λ (o : Option Refusal). written o (outcome_words words (act (model_of image) words (move_of kind b t c u))) words) (sym (ap answer_in q) ∙ same-refusal)
+    pub step_refused : some r ≡ (step image words (move_of kind b t c u)).answer
+    unfolding step
+    step_refused = sym (ap (λ (o : Option Refusal). or_else o (outcome_refusal outcome)) early)
 
-  module _ (q : r ≡ NoRefusal) where
+    pub step_kept : words ≡ (step image words (move_of kind b t c u)).words
+    unfolding step
+    step_kept = sym (ap (λ (o : Option Refusal). written o (outcome_words words outcome) words) early)
+
+  module _ (e : none ≡ moves_refusal image words (not (eqb (length words) 9112))) where
     none-refused : state_refusal image words ≡ none
-    none-refused = is_none (state_refusal image words) r same-refusal q
+    unfolding state_refusal ◌isnt◌
+    none-refused = sym e
 
-    module _ (n : ℕ) (m : n ≡ outcome_number (act (model_of image) words (move_of kind b t c u))) where
-      number_is : some_if (not (eqb n 0)) (refusal n 0 0) ≡ outcome_refusal (act (model_of image) words (move_of kind b t c u))
-      unfolding ◌isnt◌
-      number_is = go (act (model_of image) words (move_of kind b t c u)) refl
-        where
-          go : (o : Outcome (List ℕ)) → act (model_of image) words (move_of kind b t c u) ≡ o
-              → some_if (not (eqb n 0)) (refusal n 0 0) ≡ outcome_refusal (act (model_of image) words (move_of kind b t c u))
-          go (refused i) z =
-              let y : n ≡ i = m ∙ ap outcome_number z in
-              let f : n ≢ 0 = λ k. never_zero image words (move_of kind b t c u) (z ∙ ap refused (sym y ∙ k)) in
-              ap (λ (x : Bool). some_if x (refusal n 0 0)) (true_of (n isnt 0) ((isnt_iff n 0).1 f)) ∙ ap (λ (k : ℕ). some (unplaced k)) y
-              ∙ sym (ap outcome_refusal z)
-          go (made w) z = ap (λ (k : ℕ). some_if (not (eqb k 0)) (refusal k 0 0)) (m ∙ ap outcome_number z) ∙ sym (ap outcome_refusal z)
+    -- the answer of the move: made, or its number
+    pub step_made : 0 ≡ outcome_number outcome → none ≡ (step image words (move_of kind b t c u)).answer
+    unfolding step
+    step_made m = go outcome refl ∙ ap (λ (o : Option Refusal). or_else o (outcome_refusal outcome)) (sym none-refused)
+      where
+        go : (o : Outcome (List ℕ)) → outcome ≡ o → none ≡ outcome_refusal outcome
+        go (refused i) z = absurd (never_zero image words (move_of kind b t c u) (z ∙ ap refused (sym (m ∙ ap outcome_number z))))
+        go (made w) z = sym (ap outcome_refusal z)
 
-      pub step_answer : (d : Answer) → answer_in d ≡ some_if (not (eqb n 0)) (refusal n 0 0) → answer_in d ≡ (step image words (move_of kind b t c u)).answer
-      unfolding step
-      step_answer d g =
-          g ∙ number_is ∙ ap (λ (o : Option Refusal). or_else o (outcome_refusal (act (model_of image) words (move_of kind b t c u)))) (sym none-refused)
+    pub step_blocked : (n : ℕ) → n ≢ 0 → n ≡ outcome_number outcome → some (refusal n 0 0) ≡ (step image words (move_of kind b t c u)).answer
+    unfolding step
+    step_blocked n f m = go outcome refl ∙ ap (λ (o : Option Refusal). or_else o (outcome_refusal outcome)) (sym none-refused)
+      where
+        go : (o : Outcome (List ℕ)) → outcome ≡ o → some (refusal n 0 0) ≡ outcome_refusal outcome
+        go (refused i) z = ap (λ (k : ℕ). some (unplaced k)) (m ∙ ap outcome_number z) ∙ sym (ap outcome_refusal z)
+        go (made w) z = absurd (f (m ∙ ap outcome_number z))
 
-      pub step_words : (w : List ℕ) → w ≡ outcome_words words (act (model_of image) words (move_of kind b t c u))
-          → w ≡ (step image words (move_of kind b t c u)).words
-      unfolding step
-      step_words w g = g ∙ ap (λ (o : Option Refusal). written o (outcome_words words (act (model_of image) words (move_of kind b t c u))) words) (sym none-refused)
+    pub step_words : (w : List ℕ) → w ≡ outcome_words words outcome → w ≡ (step image words (move_of kind b t c u)).words
+    unfolding step
+    step_words w g = g ∙ ap (λ (o : Option Refusal). written o (outcome_words words outcome) words) (sym none-refused)
 
-pub ruleset early = (rules, refused_early, early_read, early_model, refused-last)
+pub ruleset refusals = (rules, early_model, early_room, late)
 
-pub ruleset steps = (rules, unrefused_read, unrefused_ready, step-refused, step_kept, step_answer, step_words)
+pub ruleset steps = (rules, unrefused_read, unrefused_ready, step_refused, step_kept, step_made, step_blocked, step_words)

@@ -1,58 +1,75 @@
 #![tactic(auto)]
 // The line that the checking program writes for a verdict.
-ghost use Rattle.std.specs.Prelude.{◌++◌, ◌+◌};
-ghost use Rattle.definitions.specs.Program.{three_numbers, four_numbers, verdict_line};
+ghost use Rattle.std.specs.Prelude.{◌≡◌, ◌≤◌, ◌+◌, ◌++◌, length};
+ghost use Rattle.definitions.specs.Program.{bytes_of, decimal, three_numbers, four_numbers, verdict_line};
 ghost use Rattle.analysis.specs.Answers.{verdict_in};
-ghost use Rattle.report.specs.Text.{text_of, Room, Reads};
 
-use analysis::Verdict;
+use analysis::NotAccepted;
 use text::Text;
 
 pub mod text;
 
-// Three numbers with single spaces between, and a newline.
-fn with_three(t: Text, a: u64, b: u64, c: u64) -> Text
-    requires { Room t 63 }
-    ensures { Reads (text_of t ++ three_numbers a b c) (t.len + 63) result }
+// A number and a space.
+#[tactic(auto, unfolding(definitions::specs::Program::bytes_of))]
+fn push_spaced(t: &mut Text, n: u64)
+    requires { length t.old + 21 ≤ 96 }
+    ensures text { t.new ≡ t.old ++ decimal n ++ bytes_of " " }
+    ensures size { length t.new ≤ length t.old + 21 }
 {
-    let t1 = text::with_byte(text::with_number(t, a, 20), b' ');
-    let t2 = text::with_byte(text::with_number(t1, b, 20), b' ');
-    text::with_byte(text::with_number(t2, c, 20), b'\n')
+    t.push_number(n, 20);
+    t.push(b' ');
+}
+
+// Three numbers with single spaces between, and a newline.
+#[tactic(auto, unfolding(definitions::specs::Program::three_numbers, definitions::specs::Program::bytes_of))]
+fn push_three(t: &mut Text, a: u64, b: u64, c: u64)
+    requires { length t.old + 63 ≤ 96 }
+    ensures text { t.new ≡ t.old ++ three_numbers a b c }
+    ensures size { length t.new ≤ length t.old + 63 }
+{
+    push_spaced(t, a);
+    push_spaced(t, b);
+    t.push_number(c, 20);
+    t.push(b'\n');
 }
 
 // One number more, before the three.
-fn with_four(t: Text, a: u64, b: u64, c: u64, d: u64) -> Text
-    requires { Room t 84 }
-    ensures { Reads (text_of t ++ four_numbers a b c d) (t.len + 84) result }
+#[tactic(auto, unfolding(definitions::specs::Program::four_numbers))]
+fn push_four(t: &mut Text, a: u64, b: u64, c: u64, d: u64)
+    requires { length t.old + 84 ≤ 96 }
+    ensures text { t.new ≡ t.old ++ four_numbers a b c d }
+    ensures size { length t.new ≤ length t.old + 84 }
 {
-    let t1 = text::with_byte(text::with_number(t, a, 20), b' ');
-    with_three(t1, b, c, d)
+    push_spaced(t, a);
+    push_three(t, b, c, d);
 }
 
-pub fn line(v: Verdict) -> Text
-    ensures { Reads (verdict_line (verdict_in v)) 96 result }
+#[tactic(auto, unfolding(definitions::specs::Program::verdict_line, definitions::specs::Program::bytes_of))]
+pub fn line(v: Result<(), NotAccepted>) -> Text
+    ensures text { result ≡ verdict_line (verdict_in v) }
+    ensures size { length result ≤ 96 }
 {
-    let t = text::empty();
+    let mut t = Text::new();
     match v {
-        Verdict::Accepted => text::with_word(t, b"accepted\n"),
-        Verdict::Breaks(x) => with_four(
-            text::with_word(t, b"clause "),
-            x.clause as u64,
-            x.boxno as u64,
-            x.place as u64,
-            x.name.0 as u64,
-        ),
-        Verdict::RefusedModel(r) => with_three(
-            text::with_word(t, b"refused model "),
-            r.number as u64,
-            r.place as u64,
-            r.second as u64,
-        ),
-        Verdict::RefusedEstimate(r) => with_three(
-            text::with_word(t, b"refused estimate "),
-            r.number as u64,
-            r.place as u64,
-            r.second as u64,
-        ),
+        Ok(()) => t.push_all(b"accepted\n"),
+        Err(NotAccepted::Breaks(x)) => {
+            t.push_all(b"clause ");
+            push_four(
+                &mut t,
+                x.clause as u64,
+                x.boxno as u64,
+                x.place as u64,
+                x.name.0 as u64,
+            );
+        }
+        Err(NotAccepted::RefusedModel(r)) => {
+            t.push_all(b"refused model ");
+            push_three(&mut t, r.number as u64, r.place as u64, r.second as u64);
+        }
+        Err(NotAccepted::RefusedEstimate(r)) => {
+            t.push_all(b"refused estimate ");
+            push_three(&mut t, r.number as u64, r.place as u64, r.second as u64);
+        }
     }
+    t
 }

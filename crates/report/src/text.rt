@@ -1,61 +1,71 @@
-// A short text that is put together byte by byte: words and numbers in decimal.
-ghost use Rattle.std.specs.Prelude.{◌++◌, ◌∷◌, [], ◌+◌, length};
+// A short text that is put together: bytes and numbers in decimal.
+ghost use Rattle.std.specs.Prelude.{◌≡◌, ◌≤◌, ◌+◌, ◌++◌, ◌∷◌, [], length};
 ghost use Rattle.definitions.specs.Program.{decimal_in};
-ghost use Rattle.report.specs.Text.{text_of, Room, Reads};
+
+use std::marker::Model;
 
 // At most 96 bytes, of which the first len are the text.
-#[derive(Clone, Copy)]
+#[derive(Drop)]
 pub struct Text {
-    pub bytes: [u8; 96],
-    pub len: usize,
+    bytes: [u8; 96],
+    len: usize,
 }
 
-pub fn empty() -> Text
-    ensures { Reads [] 0 result }
-{
-    Text {
-        bytes: [0u8; 96],
-        len: 0,
-    }
+impl Model for Text {
+    ghost use Rattle.std.specs.Prelude.{List, ℕ, ◌≤◌, take};
+
+    ghost Value = { List ℕ };
+
+    ghost view = { λ t. take t.len t.bytes };
+
+    ghost invariant = { λ t. t.len ≤ 96 };
 }
 
-// The text with one byte more.
-pub fn with_byte(t: Text, b: u8) -> Text
-    requires { Room t 1 }
-    ensures { Reads (text_of t ++ (b ∷ [])) (t.len + 1) result }
-{
-    let at = t.len;
-    let mut next = t;
-    next.bytes[at] = b;
-    next.len = at + 1;
-    next
-}
+impl Text {
+    pub fn new() -> Text
+        ensures { result ≡ [] }
+    {
+        Text {
+            bytes: [0; 96],
+            len: 0,
+        }
+    }
 
-// The text with a word more.
-pub fn with_word(t: Text, s: &[u8]) -> Text
-    requires { Room t (length s.now) }
-    ensures { Reads (text_of t ++ s.now) (t.len + length s.now) result }
-{
-    let mut u = t;
-    let mut i = 0;
-    while i < s.len() {
-        u = with_byte(u, s[i]);
-        i += 1;
+    pub fn as_bytes(&self) -> &[u8]
+        ensures { result.now ≡ self.now }
+    {
+        &self.bytes[..self.len]
     }
-    u
-}
 
-// The text with a number more, of at most so many digits.
-pub fn with_number(t: Text, n: u64, most: usize) -> Text
-    requires { Room t most }
-    ensures { Reads (text_of t ++ decimal_in most n) (t.len + most) result }
-{
-    if most == 0 {
-        return t;
+    pub fn push(&mut self, b: u8)
+        requires { length self.old + 1 ≤ 96 }
+        ensures { self.new ≡ self.old ++ b ∷ [] }
+    {
+        self.bytes[self.len] = b;
+        self.len += 1;
     }
-    if n < 10 {
-        return with_byte(t, 48 + n as u8);
+
+    pub fn push_all(&mut self, s: &[u8])
+        requires { length self.old + length s.now ≤ 96 }
+        ensures { self.new ≡ self.old ++ s.now }
+    {
+        let end = self.len + s.len();
+        self.bytes[self.len..end].copy_from_slice(s);
+        self.len = end;
     }
-    let u = with_number(t, n / 10, most - 1);
-    with_byte(u, 48 + (n % 10) as u8)
+
+    // A number in decimal, of at most so many digits.
+    pub fn push_number(&mut self, n: u64, most: usize)
+        requires { length self.old + most ≤ 96 }
+        ensures text { self.new ≡ self.old ++ decimal_in most n }
+        ensures size { length self.new ≤ length self.old + most }
+    {
+        if most == 0 {
+            return;
+        }
+        if n >= 10 {
+            self.push_number(n / 10, most - 1);
+        }
+        self.push(b'0' + (n % 10) as u8);
+    }
 }

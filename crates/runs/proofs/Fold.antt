@@ -1,24 +1,23 @@
 -- The moves of a list by an index, as the loop makes them, are the definition's run. Assumes nothing.
 use mathlib.Core.Path.{◌≡◌, refl, sym, ap, ap₂, ◌∙◌}
 use mathlib.Core.List.{List, [], ◌∷◌}
-use mathlib.Core.Option.{Option, none, some}
-use mathlib.Core.WellFounded.InvImage
-use mathlib.Core.WellFounded.{WellFounded}
+use mathlib.Core.Option.{Option, none}
 use Prim.Native.Nat.{ℕ, zero, suc, ◌+◌, ◌-◌, ◌<◌, ◌≤◌}
 use native.Mathlib.Omega.{arith}
-use lib.WfN.{lt-wf_rel}
-use lib.ListN.{length, get_or, set, length-map}
+use borrow.Author.Rules.{rules}
+use lib.ListN.{length, get_or, set, length-map, length-set}
 use Rattle.definitions.specs.Bounded.{◌or◌, ◌isnt◌}
 use Rattle.definitions.specs.Answer.{Refusal}
 use Rattle.definitions.specs.Image.{model_of}
 use Rattle.definitions.specs.Moves as moves
 use Rattle.definitions.specs.Calls.{outcome_number, outcome_words, written, act_all, moves_refusal, run_refusal, run}
 use Rattle.definitions.proofs.Calls.{run_iff}
+use Rattle.std.specs.Prelude.{Result, Ok, Err}
+use Rattle.refusals.specs.declared.Refusal as code
 use Rattle.refusals.specs.Answers.{answer_in}
 use Rattle.lookups.specs.Ready.{Ready}
 use Rattle.runs.specs.declared.Move.{Move}
-use Rattle.runs.specs.declared.Begun.{Begun}
-use Rattle.runs.specs.Begins.{move_in, moves_in, unless_refused, Begins}
+use Rattle.runs.specs.Begins.{move_in, moves_in, Begins}
 
 -- a move that is in no list
 abbrev pub no_move : Move
@@ -63,138 +62,86 @@ module _ (image : List ℕ) where
       answers_later v ms (length ms) 0 (step_s s v) (step_a s v) rs ∙ ap {B = List ℕ} (λ l. step_a s v ∷ l) (answers_is ms (step_s s v) rs (omega (arith, e)))
 
   module _ (ms : List Move) (s₀ rs₀ : List ℕ) where
-    -- what the tests of a run say of its moves: their count is within both lists, and so many moves leave what the definition says
-    pub record Planned (r : Begun) : Type 0 where
-      pub answer : answer_in r.answer ≡ (run image s₀ (moves_in ms) rs₀).answer
-      pub moves : r.count ≤ length ms
-      pub answers : r.count ≤ length rs₀
-      pub ready : 0 < r.count → Ready image r.places s₀
-      pub s_is : state_from ms r.count 0 s₀ ≡ (run image s₀ (moves_in ms) rs₀).words
-      pub rs_is : answers_from ms r.count 0 s₀ rs₀ ≡ (run image s₀ (moves_in ms) rs₀).answers
-
     same-refusal : moves_refusal image s₀ (length s₀ isnt 9112 or length rs₀ isnt length ms) ≡ run_refusal image s₀ (moves_in ms) rs₀
     unfolding run_refusal
     same-refusal = ap (λ (n : ℕ). moves_refusal image s₀ (length s₀ isnt 9112 or length rs₀ isnt n)) (sym (length-map ms move_in))
 
-    pub planned : (r : Begun) → Begins image s₀ (length ms) (length rs₀) r → Planned r
+    refusal_is : (r : Result ℕ code.Refusal) → Begins image s₀ (length ms) (length rs₀) r → run_refusal image s₀ (moves_in ms) rs₀ ≡ answer_in r
+    refusal_is r b = sym (b.answer ∙ same-refusal)
+
+    pub begun_answer : (r : Result ℕ code.Refusal) → Begins image s₀ (length ms) (length rs₀) r → (run image s₀ (moves_in ms) rs₀).answer ≡ answer_in r
     unfolding run
-    planned r b = go (answer_in r.answer) refl
-      where
-        go : (o : Option Refusal) → answer_in r.answer ≡ o → Planned r
-        go (some x) e =
-            let zero-moves : r.count ≡ 0 = b.count ∙ ap (λ (q : Option Refusal). unless_refused q (length ms)) e in
-            let is : run_refusal image s₀ (moves_in ms) rs₀ ≡ some x = sym same-refusal ∙ sym b.answer ∙ e in
-            record {
-              answer = b.answer ∙ same-refusal;
-              moves = omega arith;
-              answers = omega arith;
-              ready = λ h. absurd (omega arith);
-              s_is =
-                  ap (λ (n : ℕ). state_from ms n 0 s₀) zero-moves
-                  ∙ ap (λ (q : Option Refusal). written q (act_all (model_of image) s₀ (moves_in ms)).words s₀) (sym is);
-              rs_is =
-                  ap (λ (n : ℕ). answers_from ms n 0 s₀ rs₀) zero-moves
-                  ∙ ap (λ (q : Option Refusal). written q (act_all (model_of image) s₀ (moves_in ms)).answers rs₀) (sym is);
-            }
-        go none e =
-            let all_moves : r.count ≡ length ms = b.count ∙ ap (λ (q : Option Refusal). unless_refused q (length ms)) e in
-            let is : run_refusal image s₀ (moves_in ms) rs₀ ≡ none = sym same-refusal ∙ sym b.answer ∙ e in
-            let same : length rs₀ ≡ length ms = ((run_iff image s₀ (moves_in ms) rs₀).0 is).1.0.1 ∙ length-map ms move_in in
-            record {
-              answer = b.answer ∙ same-refusal;
-              moves = omega arith;
-              answers = omega arith;
-              ready = λ h. b.ready e;
-              s_is =
-                  ap (λ (n : ℕ). state_from ms n 0 s₀) all_moves ∙ state_is ms s₀
-                  ∙ ap (λ (q : Option Refusal). written q (act_all (model_of image) s₀ (moves_in ms)).words s₀) (sym is);
-              rs_is =
-                  ap (λ (n : ℕ). answers_from ms n 0 s₀ rs₀) all_moves ∙ answers_is ms s₀ rs₀ same
-                  ∙ ap (λ (q : Option Refusal). written q (act_all (model_of image) s₀ (moves_in ms)).answers rs₀) (sym is);
-            }
+    begun_answer r b = refusal_is r b
 
-    -- ---- the loop's turns, of a run whose tests gave r
+    -- a run that is refused before its first move: nothing is written
+    module _ (x : code.Refusal) (b : Begins image s₀ (length ms) (length rs₀) (Err x)) where
+      pub refused_words : s₀ ≡ (run image s₀ (moves_in ms) rs₀).words
+      unfolding run
+      refused_words = sym (ap (λ (o : Option Refusal). written o (act_all (model_of image) s₀ (moves_in ms)).words s₀) (refusal_is (Err x) b))
 
-    module _ (r : Begun) (plan : Planned r) where
-      -- where the loop's test is reached: so many moves are left, from the i-th
-      pub record Turn : Type 0 where
-        pub left : ℕ
-        pub i : ℕ
-        pub s : List ℕ
-        pub rs : List ℕ
-        pub sum : i + left ≡ r.count
-        pub s_length : length s ≡ length s₀
-        pub rs_length : length rs ≡ length rs₀
-        pub ready : 0 < left → Ready image r.places s
-        pub s_is : state_from ms left i s ≡ (run image s₀ (moves_in ms) rs₀).words
-        pub rs_is : answers_from ms left i s rs ≡ (run image s₀ (moves_in ms) rs₀).answers
+      pub refused_answers : rs₀ ≡ (run image s₀ (moves_in ms) rs₀).answers
+      unfolding run
+      refused_answers = sym (ap (λ (o : Option Refusal). written o (act_all (model_of image) s₀ (moves_in ms)).answers rs₀) (refusal_is (Err x) b))
 
-      abbrev pub begin : Turn
-      begin = record {
-        left = r.count;
-        i = 0;
-        s = s₀;
-        rs = rs₀;
-        sum = omega arith;
-        s_length = refl;
-        rs_length = refl;
-        ready = plan.ready;
-        s_is = plan.s_is;
-        rs_is = plan.rs_is;
-      }
+    -- i moves are made: the others take the words and the answers to what the definition says
+    pub record MovesRun (places i : ℕ) (s rs : List ℕ) : Type 0 where
+      pub unrefused : run_refusal image s₀ (moves_in ms) rs₀ ≡ none
+      pub room : length rs ≡ length ms
+      pub ready : Ready image places s
+      pub s_is : state_from ms (length ms - i) i s ≡ (run image s₀ (moves_in ms) rs₀).words
+      pub rs_is : answers_from ms (length ms - i) i s rs ≡ (run image s₀ (moves_in ms) rs₀).answers
 
+    pub moves_start : (places : ℕ) → Begins image s₀ (length ms) (length rs₀) (Ok places) → MovesRun places 0 s₀ rs₀
+    unfolding run
+    moves_start places b =
+        let none-refused : run_refusal image s₀ (moves_in ms) rs₀ ≡ none = refusal_is (Ok places) b in
+        let same : length rs₀ ≡ length ms = ((run_iff image s₀ (moves_in ms) rs₀).0 none-refused).1.0.1 ∙ length-map ms move_in in
+        let all : length ms - 0 ≡ length ms = omega arith in
+        record {
+          unrefused = none-refused;
+          room = same;
+          ready = b.ready places refl;
+          s_is =
+              ap (λ (n : ℕ). state_from ms n 0 s₀) all ∙ state_is ms s₀
+              ∙ ap (λ (o : Option Refusal). written o (act_all (model_of image) s₀ (moves_in ms)).words s₀) (sym none-refused);
+          rs_is =
+              ap (λ (n : ℕ). answers_from ms n 0 s₀ rs₀) all ∙ answers_is ms s₀ rs₀ same
+              ∙ ap (λ (o : Option Refusal). written o (act_all (model_of image) s₀ (moves_in ms)).answers rs₀) (sym none-refused);
+        }
+
+    module _ (places i : ℕ) (s rs : List ℕ) (m : MovesRun places i s rs) where
       -- one move more
-      module _ (t i : ℕ) (s s' : List ℕ) (l : 0 < t) (e : s' ≡ step_s s (get_or ms i no_move)) where
-        one_less : suc (t - 1) ≡ t
-        one_less = omega arith
+      module _ (less : i < length ms) (v : Move) (at : get_or ms i no_move ≡ v) (s' rs' : List ℕ) (e : s' ≡ step_s s v) (d : rs' ≡ set rs i (step_a s v)) where
+        left : suc (length ms - (i + 1)) ≡ length ms - i
+        left = omega arith
 
-        one_more : i + 1 ≡ suc i
-        one_more = omega arith
+        more : i + 1 ≡ suc i
+        more = omega arith
 
-        pub s_next : state_from ms (t - 1) (i + 1) s' ≡ state_from ms t i s
-        s_next =
-            ap (λ (k : ℕ). state_from ms (t - 1) k s') one_more ∙ ap (state_from ms (t - 1) (suc i)) e
-            ∙ ap (λ (u : ℕ). state_from ms u i s) one_less
+        pub moves_turn : Ready image places s' → MovesRun places (i + 1) s' rs'
+        moves_turn k = record {
+          unrefused = m.unrefused;
+          room = ap length d ∙ length-set rs i (step_a s v) ∙ m.room;
+          ready = k;
+          s_is =
+              ap (λ (j : ℕ). state_from ms (length ms - (i + 1)) j s') more ∙ ap (state_from ms (length ms - (i + 1)) (suc i)) (e ∙ ap (step_s s) (sym at))
+              ∙ ap (λ (u : ℕ). state_from ms u i s) left ∙ m.s_is;
+          rs_is =
+              ap (λ (j : ℕ). answers_from ms (length ms - (i + 1)) j s' rs') more
+              ∙ ap₂ (λ (x y : List ℕ). answers_from ms (length ms - (i + 1)) (suc i) x y) (e ∙ ap (step_s s) (sym at))
+              (d ∙ ap (λ (u : Move). set rs i (step_a s u)) (sym at))
+              ∙ ap (λ (u : ℕ). answers_from ms u i s rs) left ∙ m.rs_is;
+        }
 
-        pub rs_next : (rs rs' : List ℕ) → rs' ≡ set rs i (step_a s (get_or ms i no_move)) → answers_from ms (t - 1) (i + 1) s' rs' ≡ answers_from ms t i s rs
-        rs_next rs rs' d =
-            ap (λ (k : ℕ). answers_from ms (t - 1) k s' rs') one_more
-            ∙ ap₂ (λ (x y : List ℕ). answers_from ms (t - 1) (suc i) x y) e d
-            ∙ ap (λ (u : ℕ). answers_from ms u i s rs) one_less
+      -- all moves are made
+      module _ (all : length ms ≤ i) where
+        no-more : 0 ≡ length ms - i
+        no-more = omega arith
 
-      pub some_left : (x : Turn) → x.i < r.count → 0 < x.left
-      some_left x less = omega (arith, x.sum)
+        pub end_words : s ≡ (run image s₀ (moves_in ms) rs₀).words
+        end_words = ap (λ (u : ℕ). state_from ms u i s) no-more ∙ m.s_is
 
-      -- the next turn, at the lists that a move left
-      abbrev pub next : (x : Turn) → x.i < r.count → (s' rs' : List ℕ) → length s' ≡ length x.s → length rs' ≡ length x.rs
-          → (s' ≡ step_s x.s (get_or ms x.i no_move)) × (rs' ≡ set x.rs x.i (step_a x.s (get_or ms x.i no_move))) × Ready image r.places s' → Turn
-      next x less s' rs' l l' e = record {
-        left = x.left - 1;
-        i = x.i + 1;
-        s = s';
-        rs = rs';
-        sum = omega (arith, x.sum);
-        s_length = l ∙ x.s_length;
-        rs_length = l' ∙ x.rs_length;
-        ready = λ _. e.2;
-        s_is = s_next x.left x.i x.s s' (some_left x less) e.0 ∙ x.s_is;
-        rs_is = rs_next x.left x.i x.s s' (some_left x less) e.0 x.rs rs' e.1 ∙ x.rs_is;
-      }
+        pub end_answers : rs ≡ (run image s₀ (moves_in ms) rs₀).answers
+        end_answers = ap (λ (u : ℕ). answers_from ms u i s rs) no-more ∙ m.rs_is
 
-      abbrev pub Nearer : Turn → Turn → Type 0
-      Nearer x y = x.left < y.left
-
-      pub Nearer_wf : WellFounded Nearer
-      Nearer_wf = InvImage.wf (λ (x : Turn). x.left) lt-wf_rel.wf
-
-      pub nearer : (x : Turn) → x.i < r.count → x.left - 1 < x.left
-      nearer x less = omega (arith, x.sum)
-
-      pub ended : (x : Turn) → r.count ≤ x.i → (x.s ≡ (run image s₀ (moves_in ms) rs₀).words) × (x.rs ≡ (run image s₀ (moves_in ms) rs₀).answers)
-      ended x over = (
-        ap (λ (t : ℕ). state_from ms t x.i x.s) (sym none_left) ∙ x.s_is,
-        ap (λ (t : ℕ). answers_from ms t x.i x.s x.rs) (sym none_left) ∙ x.rs_is,
-      )
-        where
-          none_left : x.left ≡ 0
-          none_left = omega (arith, x.sum)
+pub ruleset moves_runs = (rules, begun_answer, refused_words, refused_answers, moves_start, end_words, end_answers)

@@ -1,17 +1,15 @@
 -- What a run is to do once its tests are made. Assumes nothing.
-use Rattle.std.specs.Prelude.{◌≡◌, List, map, ℕ, ◌+◌, ◌*◌, ◌/◌, length}
-use Rattle.std.proofs.Math.Option.{Option, none, some}
+use Rattle.std.specs.Prelude.{◌≡◌, List, map, ℕ, ◌+◌, ◌*◌, ◌/◌, length, Result, Ok}
 use Rattle.definitions.specs.Bounded.{◌or◌, ◌isnt◌, tabulate}
-use Rattle.definitions.specs.Answer.{Refusal}
 use Rattle.definitions.specs.Slots.{word}
 use Rattle.definitions.specs.Record.{state_length}
 use Rattle.definitions.specs.Moves as moves
 use Rattle.definitions.specs.Calls.{moves_refusal}
+use Rattle.refusals.specs.declared.Refusal.{Refusal}
 use Rattle.refusals.specs.Answers.{answer_in}
 use Rattle.lookups.specs.Ready.{Ready}
 use Rattle.deciding.specs.Numbers.{move_of}
 use Rattle.runs.specs.declared.Move.{Move}
-use Rattle.runs.specs.declared.Begun.{Begun}
 
 -- the moves of a lent list
 abbrev pub move_in : Move → moves.Move
@@ -33,13 +31,7 @@ move_at numbers i = record {
 unfoldable pub moves_of : List ℕ → List Move
 moves_of numbers = tabulate (length numbers / 5) (move_at numbers)
 
--- none of n moves where there is a refusal, and else all
-abbrev pub unless_refused : Option Refusal → ℕ → ℕ
-unless_refused none n = n
-unless_refused (some r) n = 0
-
--- a run of so many moves with room for so many answers
-pub record Begins (image words : List ℕ) (moves answers : ℕ) (r : Begun) : Type 0 where
-  pub answer : answer_in r.answer ≡ moves_refusal image words (length words isnt state_length or answers isnt moves)
-  pub count : r.count ≡ unless_refused (answer_in r.answer) moves
-  pub ready : answer_in r.answer ≡ none → Ready image r.places words
+-- a run of so many moves with room for so many answers: a refusal, or where the boxes stand
+pub record Begins (image words : List ℕ) (moves answers : ℕ) (r : Result ℕ Refusal) : Type 0 where
+  pub answer : answer_in r ≡ moves_refusal image words (length words isnt state_length or answers isnt moves)
+  pub ready : (places : ℕ) → r ≡ Ok places → Ready image places words

@@ -1,7 +1,7 @@
 -- The members of a set in order: the lowest, then those of the set without it. Assumes nothing.
-use Rattle.std.proofs.Common.{◌≡◌, ℕ, zero, suc, ◌+◌, ◌^◌, ◌<◌, Bool, true, false, List, [], ◌∷◌, ◌++◌, length, sym, refl, ap, ◌∙◌, le_refl, add-one, arith}
+use Rattle.std.proofs.Common.{◌≡◌, ℕ, zero, suc, ◌^◌, ◌<◌, Bool, true, false, List, [], ◌∷◌, ◌++◌, length, sym, refl, ap, ◌∙◌, le_refl, add-one, arith}
 use native.Mathlib.Decide.{le_ind}
-use Rattle.definitions.specs.Bounded.{◌and◌, ◌isnt◌}
+use Rattle.definitions.specs.Bounded.{◌isnt◌}
 use Rattle.definitions.specs.Sets.{has, members_below, members, size}
 use Rattle.definitions.proofs.Bounded.{and_iff, isnt_iff, false_of, same_test}
 use Rattle.definitions.proofs.Sets.{has-none, low_clear, members_in, members_out, member_at, length-members}

@@ -1,2 +1,3 @@
 pub mod Lowest
+pub mod Ascending
 pub mod Names

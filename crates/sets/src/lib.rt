@@ -1,12 +1,12 @@
 #![tactic(auto)]
 // Sets of names: a u64 has name n where its binary digit n is 1. No call asks anything of its arguments.
-ghost use Rattle.std.specs.Prelude.{◌≡◌, ℕ, ◌<◌};
+ghost use Rattle.std.specs.Prelude.{◌≡◌, ℕ, ◌<◌, MatchOption};
 ghost use Rattle.definitions.specs.Bounded.{◌and◌, ◌or◌, ◌is◌};
 ghost use Rattle.definitions.specs.Sets as names;
 ghost use Rattle.sets.specs.Lowest.{lowest_of, WithoutLowest};
 
 // The paper's "name's number". A held name, a number with a stamp, is another type.
-#[derive(Clone, Copy)]
+#[derive(Clone, Copy, Debug, PartialEq, Eq)]
 pub struct NameNo(pub u8);
 
 // Binary digit n of s is 1: never where n is above 63.
@@ -44,18 +44,22 @@ pub fn intersects(a: u64, b: u64) -> bool
     a & b != 0
 }
 
-// The lowest member of s, or 64 where s has none. `lowest` and `without_lowest` walk over a set with no search.
-pub fn lowest(s: u64) -> NameNo
-    ensures { result.0 ≡ lowest_of s }
+// The lowest member of s.
+pub fn lowest(s: u64) -> Option<NameNo>
+    ensures { MatchOption result (s ≡ 0) (λ n. (0 < s) × (n.0 ≡ lowest_of s)) }
 {
-    NameNo(u64::trailing_zeros(s) as u8)
+    if s == 0 {
+        None
+    } else {
+        Some(NameNo(u64::trailing_zeros(s) as u8))
+    }
 }
 
 // s without its lowest member.
 pub fn without_lowest(s: u64) -> u64
     ensures { WithoutLowest s result }
 {
-    s & std::num::wrapping_sub_u64(s, 1)
+    s & s.wrapping_sub(1)
 }
 
 // s with name n put in: s itself where n is above 63.
@@ -84,4 +88,25 @@ pub fn count(s: u64) -> u32
     ensures { result ≡ names.size s }
 {
     u64::count_ones(s)
+}
+
+// The members of a set, ascending: what is left of it.
+#[derive(Clone, Copy)]
+pub struct Ascending(pub u64);
+
+impl Iterator for Ascending {
+    ghost use Rattle.std.specs.Iterator.{at_most};
+    ghost use Rattle.sets.specs.Ascending.{NextMember};
+
+    type Item = NameNo;
+
+    ghost next_gives = { NextMember };
+
+    ghost remaining = { λ s. at_most s.0 };
+
+    fn next(&mut self) -> Option<NameNo> {
+        let n = lowest(self.0)?;
+        self.0 = without_lowest(self.0);
+        Some(n)
+    }
 }

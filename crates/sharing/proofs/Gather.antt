@@ -4,7 +4,7 @@ use mathlib.Core.Bool.{Bool, true, false}
 use mathlib.Core.List.{List}
 use mathlib.Core.Logic.{inl, inr, ⊎_elim}
 use mathlib.Core.Option.{none}
-use Prim.Native.Nat.{ℕ, ◌+◌, ◌^◌, ◌≤◌, ◌<◌, zero-le}
+use Prim.Native.Nat.{ℕ, ◌+◌, ◌^◌, ◌≤◌, ◌<◌}
 use native.Mathlib.Nat.{le_antisymm}
 use native.Mathlib.Numerals.{add-one}
 use native.Mathlib.Omega.{arith}
@@ -18,12 +18,10 @@ use Rattle.definitions.specs.Estimate.{Estimate, estimate_of}
 use Rattle.definitions.specs.Clauses.{clause4, clause5, clause6}
 use Rattle.definitions.proofs.Bounded.{and_iff, or_iff, all_iff, implies_iff, isnt_iff, true_of, of_true, false_of, not-false, same_test}
 use Rattle.definitions.proofs.Sets.{and-true, and_assoc, has-none, for_each_iff, for_some_iff, within_iff, within_trans, meets_iff, meets_comm}
-use Rattle.definitions.proofs.Loops.{fails, holds}
 use Rattle.definitions.proofs.Clauses.{sets, clause4_iff, clause5_iff, clause6_iff}
-use Rattle.sets.specs.Lowest.{lowest_of, WithoutLowest}
-use Rattle.sets.specs.Names.{NamesOnly}
-use Rattle.sets.proofs.Walk.{Left, left_start, left_turn, walk_less, split_each, none_each}
-use Rattle.clauses.proofs.Members.{UnionOf, left_62, left_64, names_shown, names_both}
+use Rattle.sets.specs.Ascending.{LowestOf}
+use Rattle.sets.proofs.Walk.{Left, left_start, left_turn, split_each, none_each}
+use Rattle.clauses.proofs.Members.{UnionOf, left_62, names_shown, names_both}
 use Rattle.clauses.proofs.Rows.{Rows, rows_start, rows_turn, rows_end, rows_size}
 use Rattle.links.specs.Types.{Types, TypeTable}
 use Rattle.sharing.specs.declared.Gathered.{Gathered}
@@ -81,6 +79,9 @@ module _ (e : Estimate) (x k c w : ℕ) (b : Bool) (y : ℕ) (eb : b ≡ meets x
 
 -- ---- each name of a set
 
+some-left : (left n t : ℕ) → LowestOf left n t → left ≡ 0 → ⊥
+some-left left n t d z = omega (arith, d.some_left)
+
 -- what is gathered, and what is left of s, ask together what w₀ and s ask
 pub record Gathering (s : ℕ) (p : ℕ → ℕ → Bool) (w₀ left w : ℕ) : Type 0 where
   pub there : Left s left
@@ -91,22 +92,22 @@ module _ (s : ℕ) (p : ℕ → ℕ → Bool) (w₀ : ℕ) where
   gathering_start h = record { there = left_start s h; same = λ q. refl }
 
   module _ (left w : ℕ) (g : Gathering s p w₀ left w) where
-    pub gathering_turn : (n t v : ℕ) → (left ≡ 0 → ⊥) → n ≡ lowest_of left → WithoutLowest left t → Joined v w (p n) → Gathering s p w₀ t v
-    gathering_turn n t v z e r j = record {
-      there = left_turn s left t g.there z r;
+    pub gathering_turn : (n t v : ℕ) → LowestOf left n t → Joined v w (p n) → Gathering s p w₀ t v
+    gathering_turn n t v d j = record {
+      there = left_turn s left t g.there (some-left left n t d) d.others;
       same = λ q. ap (λ (x : Bool). x and for_each t (λ i. p i q)) (j.same q) ∙ and_assoc (within w q) (p n q) (for_each t (λ i. p i q))
-          ∙ ap (λ (x : Bool). within w q and x) (sym (split_each (λ i. p i q) left t n g.there.fit z e r)) ∙ g.same q;
+          ∙ ap (λ (x : Bool). within w q and x) (sym (split_each (λ i. p i q) left t n g.there.fit (some-left left n t d) d.lowest d.others)) ∙ g.same q;
     }
 
     none_left : left ≡ 0 → (q : ℕ) → within w q ≡ (within w₀ q and for_each s (λ j. p j q))
     none_left z q = sym (and-true (within w q)) ∙ ap (λ (x : Bool). within w q and x) (sym (none_each (λ j. p j q) left z)) ∙ g.same q
 
 -- all that box k may send on the names of s
-module _ (e : Estimate) (k s : ℕ) where
-  pub sent_in_lem : (v w u c : ℕ) → UnionOf v w u → u ≡ e.kap k c → Joined v w (sent_in e k c)
-  unfolding sent_in
-  sent_in_lem v w u c = joined_union v w u (e.kap k c)
+pub sent_in_lem : (e : Estimate) (k v w u c : ℕ) → UnionOf v w u → u ≡ e.kap k c → Joined v w (sent_in e k c)
+unfolding sent_in
+sent_in_lem e k v w u c = joined_union v w u (e.kap k c)
 
+module _ (e : Estimate) (k s : ℕ) where
   pub sent_end : (left w : ℕ) → Gathering s (sent_in e k) 0 left w → left ≡ 0 → Least w (all_sent_in e k s)
   unfolding all_sent_in ◌and◌
   sent_end left w g z = record {
@@ -162,26 +163,24 @@ pub types_at : (e : Estimate) (boxes k v : ℕ) (t : List ℕ) → TypeTable e b
 types_at e boxes k v t d h ev = rw ev (d.each k h)
 
 -- what the boxes below k ask
-pub record Through (f : ℕ → ℕ → Bool) (n k w : ℕ) : Type 0 where
-  pub most : k ≤ n
+pub record Through (f : ℕ → ℕ → Bool) (k w : ℕ) : Type 0 where
   pub so_far : (q : ℕ) → within w q ≡ all_below k (λ i. f i q)
 
-module _ (f : ℕ → ℕ → Bool) (n : ℕ) where
-  pub through_start : Through f n 0 0
+module _ (f : ℕ → ℕ → Bool) where
+  pub through_start : Through f 0 0
   unfolding all_below
-  through_start = record { most = zero-le; so_far = λ q. within_none q }
+  through_start = record { so_far = λ q. within_none q }
 
-  pub through_turn : (k w v : ℕ) → Through f n k w → k < n → Joined v w (f k) → Through f n (k + 1) v
+  pub through_turn : (k w v : ℕ) → Through f k w → Joined v w (f k) → Through f (k + 1) v
   unfolding all_below
-  through_turn k w v t l a = record {
-    most = omega arith;
+  through_turn k w v t a = record {
     so_far = λ q. a.same q ∙ ap (λ (z : Bool). z and f k q) (t.so_far q) ∙ ap (λ (j : ℕ). all_below j (λ i. f i q)) (sym (add-one k));
   }
 
-through_all : (f : ℕ → ℕ → Bool) (n k w : ℕ) → Through f n k w → n ≤ k → Least w (λ q. all_below n (λ i. f i q))
-through_all f n k w t l = record { same = λ q. t.so_far q ∙ ap (λ (j : ℕ). all_below j (λ i. f i q)) (le_antisymm t.most l) }
+through_all : (f : ℕ → ℕ → Bool) (n k w : ℕ) → Through f k w → k ≤ n → n ≤ k → Least w (λ q. all_below n (λ i. f i q))
+through_all f n k w t l h = record { same = λ q. t.so_far q ∙ ap (λ (j : ℕ). all_below j (λ i. f i q)) (le_antisymm l h) }
 
-pub shared_end : (e : Estimate) (boxes b x k w : ℕ) → Through (shared_by_other e b x) boxes k w → boxes ≤ k → Least w (shared_by_others e boxes b x)
+pub shared_end : (e : Estimate) (boxes b x k w : ℕ) → Through (shared_by_other e b x) k w → k ≤ boxes → boxes ≤ k → Least w (shared_by_others e boxes b x)
 unfolding shared_by_others
 shared_end e boxes b x = through_all (shared_by_other e b x) boxes
 
@@ -216,7 +215,7 @@ pub sent_out_own : (e : Estimate) (b k w : ℕ) → k ≡ b → Joined w w (sent
 unfolding sent_by_other
 sent_out_own e b k w f = joined-not (k isnt b) (all_sent_in e k (e.shown k)) w (isnt_no k b f)
 
-pub others_end : (e : Estimate) (boxes b k w : ℕ) → Through (sent_by_other e b) boxes k w → boxes ≤ k → Least w (sent_by_others e boxes b)
+pub others_end : (e : Estimate) (boxes b k w : ℕ) → Through (sent_by_other e b) k w → k ≤ boxes → boxes ≤ k → Least w (sent_by_others e boxes b)
 unfolding sent_by_others
 others_end e boxes b = through_all (sent_by_other e b) boxes
 
@@ -323,14 +322,14 @@ module _ (e : Estimate) (b s : ℕ) where
   meeting-start h = record { there = left_start s h; same = λ q. ap (λ (y : Bool). y and may_send e b s q) (all_names q) }
 
   module _ (left w : ℕ) (g : Meeting e b s left w) where
-    pub meeting-turn : (n t v u : ℕ) → (left ≡ 0 → ⊥) → n ≡ lowest_of left → WithoutLowest left t → ((m : ℕ) → has v m ≡ (has w m and has u m)) → u ≡ e.kap b n
+    pub meeting-turn : (n t v u : ℕ) → LowestOf left n t → ((m : ℕ) → has v m ≡ (has w m and has u m)) → u ≡ e.kap b n
         → Meeting e b s t v
     unfolding may_send
-    meeting-turn n t v u z f r j eu = record {
-      there = left_turn s left t g.there z r;
+    meeting-turn n t v u d j eu = record {
+      there = left_turn s left t g.there (some-left left n t d) d.others;
       same = λ q. ap (λ (y : Bool). y and may_send e b t q) (within_both v w u q j ∙ ap (λ (y : ℕ). within q w and within q y) eu)
           ∙ and_assoc (within q w) (within q (e.kap b n)) (may_send e b t q)
-          ∙ ap (λ (y : Bool). within q w and y) (sym (split_each (λ a. within q (e.kap b a)) left t n g.there.fit z f r)) ∙ g.same q;
+          ∙ ap (λ (y : Bool). within q w and y) (sym (split_each (λ a. within q (e.kap b a)) left t n g.there.fit (some-left left n t d) d.lowest d.others)) ∙ g.same q;
     }
 
     pub meeting_end : left ≡ 0 → Most w (may_send e b s)
@@ -391,6 +390,6 @@ module _ (e : Estimate) (boxes b : ℕ) (g : Gathered) (h : GatheredOf e boxes b
       → GatheredOf e boxes b (record { out = g.out; most = g.most; on = g.on; all = g.all; types = x; asks = w })
   with_asks x w m = record { most = h.most; all = h.all; asks = m }
 
-pub ruleset gathers = (rules, fails, holds, walk_less, left_62, left_64, names_shown, name_in, name_out, gathering_start, gathering_turn, sent_in_lem, sent_end, names_end, names_stop, box_in_lem, box_out, through_start, through_turn, shared_end, sends_at, rows_start, rows_turn, rows_size, sent_as, sends_end, shown_in_lem, shown_out_lem, types_at, sent_in_other, sent_out_own, others_end, meeting-start, meeting-turn, meeting_end)
+pub ruleset gathers = (rules, left_62, gathering_start, sent_end, names_end, shared_end, others_end, rows_start, rows_turn, sent_as, sends_end, meeting_end)
 
-pub ruleset gathered = (gathers, nothing_gathered, with_most, with_all, with_asks, names_both, asks_as)
+pub ruleset gathered = (rules, names_shown, sends_at, shown_in_lem, shown_out_lem, types_at, nothing_gathered, with_most, with_all, with_asks, names_both, asks_as)

@@ -6,177 +6,85 @@ ghost use Rattle.definitions.specs.Estimate.{estimate_of};
 ghost use Rattle.sets.specs.Names.{NamesOnly};
 ghost use Rattle.clauses.specs.Known.{EstimateOfNames};
 ghost use Rattle.links.specs.Types.{TypeTable};
-ghost use Rattle.sharing.specs.Shared.{Least, Joined, all_sent_in, sent_by_other, sent_by_others, shared_in, all_shared_in, shared_by_other, shared_by_others, shared_on, may_send, Most, Sends, GatheredOf, NothingGathered};
+ghost use Rattle.sharing.specs.Shared.{Least, Joined, all_sent_in, sent_by_others, all_shared_in, shared_by_others, shared_on, may_send, Most, Sends, GatheredOf, NothingGathered};
 
-use sets::NameNo;
+use sets::Ascending;
 
 // All that box k may send on the names of s.
+#[tactic(auto, using(crate::proofs::Gather::gathers))]
 pub fn sent_on(estimate: &[u8], k: usize, s: u64) -> u64
-    requires { (512 * (3 + 2 * k) ≤ length estimate.now) × NamesOnly s }
+    requires there { 512 * (3 + 2 * k) ≤ length estimate.now }
+    requires names { NamesOnly s }
     ensures { Least result (all_sent_in (estimate_of estimate.now) k s) }
 {
     let mut w: u64 = 0;
-    let mut left = s;
-    while left != 0 {
-        let c = sets::lowest(left);
+    for c in Ascending(s) {
         w = sets::union(w, estimate::kap(estimate, k, c));
-        left = sets::without_lowest(left);
     }
     w
 }
 
 // All that each box may send on its shown names.
+#[tactic(auto, using(crate::proofs::Gather::gathers))]
 pub fn sends(estimate: &[u8], boxes: usize) -> [u64; 8]
     requires { EstimateOfNames estimate.now boxes }
     ensures { Sends estimate.now boxes result }
 {
-    let mut t: [u64; 8] = [0; 8];
-    let mut i = 0;
-    while i < boxes {
+    let mut t = [0u64; 8];
+    for i in 0..boxes {
         t[i] = sent_on(estimate, i, estimate::shown(estimate, i));
-        i += 1;
     }
     t
 }
 
-// The entry of box k.
-fn of_box(t: &[u64; 8], k: usize) -> u64
-    requires { (length t.now ≡ 8) × (k < 8) }
-    ensures { result ≡ get_or t.now k 0 }
-{
-    t[k]
-}
-
-// w with what box k may send on c, where the type x shares a name with eps(k, c).
-fn join_name(estimate: &[u8], x: u64, k: usize, c: NameNo, w: u64) -> u64
-    requires { (512 * (3 + 2 * k) ≤ length estimate.now) × (c.0 < 62) }
-    ensures { Joined result w (shared_in (estimate_of estimate.now) x k c.0) }
-{
-    if sets::intersects(x, estimate::eps(estimate, k, c)) {
-        sets::union(w, estimate::kap(estimate, k, c))
-    } else {
-        w
-    }
-}
-
-// The same for each c in s. all: all that box k may send on s; once it is gathered, nothing more is asked.
+// w with what box k may send on each c in s for which the type x shares a name with eps(k, c). all: all that box k may send on s; once it is
+// gathered, nothing more is asked.
+#[tactic(auto, using(crate::proofs::Gather::gathers))]
 fn join_names(estimate: &[u8], x: u64, k: usize, s: u64, all: u64, w: u64) -> u64
-    requires { (512 * (3 + 2 * k) ≤ length estimate.now) × NamesOnly s × Least all (all_sent_in (estimate_of estimate.now) k s) }
+    requires there { 512 * (3 + 2 * k) ≤ length estimate.now }
+    requires names { NamesOnly s }
+    requires all { Least all (all_sent_in (estimate_of estimate.now) k s) }
     ensures { Joined result w (all_shared_in (estimate_of estimate.now) x k s) }
 {
     let mut v = w;
-    let mut left = s;
-    while left != 0 {
+    for c in Ascending(s) {
         if sets::is_subset(all, v) {
             return v;
         }
-        let c = sets::lowest(left);
-        v = join_name(estimate, x, k, c, v);
-        left = sets::without_lowest(left);
+        if sets::intersects(x, estimate::eps(estimate, k, c)) {
+            v = sets::union(v, estimate::kap(estimate, k, c));
+        }
     }
     v
 }
 
-// The same for each shown name of box k, where its types share a name with x.
-fn join_shown(
-    estimate: &[u8],
-    sends: &[u64; 8],
-    types: &[u64; 8],
-    boxes: usize,
-    x: u64,
-    k: usize,
-    w: u64,
-) -> u64
-    requires { EstimateOfNames estimate.now boxes × Sends estimate.now boxes sends.now × TypeTable (estimate_of estimate.now) boxes types.now × (k < boxes) }
-    ensures { Joined result w (all_shared_in (estimate_of estimate.now) x k ((estimate_of estimate.now).shown k)) }
-{
-    if sets::intersects(x, of_box(types, k)) {
-        let s = estimate::shown(estimate, k);
-        join_names(estimate, x, k, s, of_box(sends, k), w)
-    } else {
-        w
-    }
-}
-
-// The same where it is not box b.
-fn join_box(
-    estimate: &[u8],
-    sends: &[u64; 8],
-    types: &[u64; 8],
-    boxes: usize,
-    b: usize,
-    x: u64,
-    k: usize,
-    w: u64,
-) -> u64
-    requires { EstimateOfNames estimate.now boxes × Sends estimate.now boxes sends.now × TypeTable (estimate_of estimate.now) boxes types.now × (k < boxes) }
-    ensures { Joined result w (shared_by_other (estimate_of estimate.now) b x k) }
-{
-    if k != b {
-        join_shown(estimate, sends, types, boxes, x, k, w)
-    } else {
-        w
-    }
-}
-
-// What clause 6 asks at names of box b whose types have the union x.
-fn shared_with(
-    estimate: &[u8],
-    sends: &[u64; 8],
-    types: &[u64; 8],
-    boxes: usize,
-    b: usize,
-    x: u64,
-) -> u64
-    requires { EstimateOfNames estimate.now boxes × Sends estimate.now boxes sends.now × TypeTable (estimate_of estimate.now) boxes types.now × (b < boxes) }
-    ensures { Least result (shared_by_others (estimate_of estimate.now) boxes b x) }
-{
-    let mut w: u64 = 0;
-    let mut k = 0;
-    while k < boxes {
-        w = join_box(estimate, sends, types, boxes, b, x, k, w);
-        k += 1;
-    }
-    w
-}
-
-// w with all that box n may send, where it is not box b.
-fn join_sent(estimate: &[u8], sends: &[u64; 8], boxes: usize, b: usize, n: usize, w: u64) -> u64
-    requires { EstimateOfNames estimate.now boxes × Sends estimate.now boxes sends.now × (b < boxes) × (n < boxes) }
-    ensures { Joined result w (sent_by_other (estimate_of estimate.now) b n) }
-{
-    if n != b {
-        sets::union(w, of_box(sends, n))
-    } else {
-        w
-    }
-}
-
-// All that the boxes other than b may send on their shown names.
+// All that the boxes other than b may send on their shown names. It asks nothing of their types, so it takes no Tables.
+#[tactic(auto, using(crate::proofs::Gather::gathers))]
 pub fn sent_by_others(estimate: &[u8], sends: &[u64; 8], boxes: usize, b: usize) -> u64
-    requires { EstimateOfNames estimate.now boxes × Sends estimate.now boxes sends.now × (b < boxes) }
+    requires known { EstimateOfNames estimate.now boxes }
+    requires sent { Sends estimate.now boxes sends.now }
+    requires within { b < boxes }
     ensures { Least result (sent_by_others (estimate_of estimate.now) boxes b) }
 {
     let mut w: u64 = 0;
-    let mut n = 0;
-    while n < boxes {
-        w = join_sent(estimate, sends, boxes, b, n, w);
-        n += 1;
+    for n in 0..boxes {
+        if n != b {
+            w = sets::union(w, sends[n]);
+        }
     }
     w
 }
 
 // What box b may send on every name of s: the names that each kap(b, a) has.
+#[tactic(auto, using(crate::proofs::Gather::gathers))]
 fn sent_most(estimate: &[u8], b: usize, s: u64) -> u64
-    requires { (512 * (3 + 2 * b) ≤ length estimate.now) × NamesOnly s }
+    requires there { 512 * (3 + 2 * b) ≤ length estimate.now }
+    requires names { NamesOnly s }
     ensures { Most result (may_send (estimate_of estimate.now) b s) }
 {
-    let mut w: u64 = 0xffff_ffff_ffff_ffff;
-    let mut left = s;
-    while left != 0 {
-        let a = sets::lowest(left);
+    let mut w = u64::MAX;
+    for a in Ascending(s) {
         w = sets::intersection(w, estimate::kap(estimate, b, a));
-        left = sets::without_lowest(left);
     }
     w
 }
@@ -194,12 +102,13 @@ pub struct Gathered {
 }
 
 // For no names: an output may send all, and nothing is asked of an input.
+#[tactic(auto, using(crate::proofs::Gather::gathered))]
 pub fn nothing() -> Gathered
     ensures { NothingGathered result }
 {
     Gathered {
         out: 0,
-        most: 0xffff_ffff_ffff_ffff,
+        most: u64::MAX,
         on: 0,
         all: 0,
         types: 0,
@@ -207,85 +116,130 @@ pub fn nothing() -> Gathered
     }
 }
 
-// Clause 4, for outputs on a channel whose rho(p) is s.
+// Clause 4, for outputs on a channel whose rho(p) is s; boxes stands in the contract alone.
+#[tactic(auto, using(crate::proofs::Gather::gathered))]
 pub fn for_outputs(estimate: &[u8], boxes: usize, b: usize, s: u64, g: Gathered) -> Gathered
-    requires { (512 * (3 + 2 * b) ≤ length estimate.now) × NamesOnly s × GatheredOf (estimate_of estimate.now) boxes b g }
-    ensures { GatheredOf (estimate_of estimate.now) boxes b result × (result.out ≡ s) }
+    requires there { 512 * (3 + 2 * b) ≤ length estimate.now }
+    requires names { NamesOnly s }
+    requires gathered { GatheredOf (estimate_of estimate.now) boxes b g }
+    ensures gathered { GatheredOf (estimate_of estimate.now) boxes b result }
+    ensures out { result.out ≡ s }
 {
     if s == g.out {
-        g
-    } else {
-        Gathered {
-            out: s,
-            most: sent_most(estimate, b, s),
-            on: g.on,
-            all: g.all,
-            types: g.types,
-            asks: g.asks,
-        }
+        return g;
+    }
+    Gathered {
+        out: s,
+        most: sent_most(estimate, b, s),
+        ..g
     }
 }
 
-// Clause 5, for inputs on a channel whose rho(p) is s.
+// Clause 5, for inputs on a channel whose rho(p) is s; boxes stands in the contract alone.
+#[tactic(auto, using(crate::proofs::Gather::gathered))]
 pub fn for_inputs(estimate: &[u8], boxes: usize, b: usize, s: u64, g: Gathered) -> Gathered
-    requires { (512 * (3 + 2 * b) ≤ length estimate.now) × NamesOnly s × GatheredOf (estimate_of estimate.now) boxes b g }
-    ensures { GatheredOf (estimate_of estimate.now) boxes b result × (result.on ≡ s) }
+    requires there { 512 * (3 + 2 * b) ≤ length estimate.now }
+    requires names { NamesOnly s }
+    requires gathered { GatheredOf (estimate_of estimate.now) boxes b g }
+    ensures gathered { GatheredOf (estimate_of estimate.now) boxes b result }
+    ensures on { result.on ≡ s }
 {
     if s == g.on {
-        g
-    } else {
-        Gathered {
-            out: g.out,
-            most: g.most,
-            on: s,
-            all: sent_on(estimate, b, s),
-            types: g.types,
-            asks: g.asks,
-        }
+        return g;
+    }
+    Gathered {
+        on: s,
+        all: sent_on(estimate, b, s),
+        ..g
     }
 }
 
-// Clause 6, for inputs whose types have the union x.
-fn for_types(
-    estimate: &[u8],
-    sends: &[u64; 8],
-    types: &[u64; 8],
-    boxes: usize,
-    b: usize,
-    x: u64,
-    g: Gathered,
-) -> Gathered
-    requires { EstimateOfNames estimate.now boxes × Sends estimate.now boxes sends.now × TypeTable (estimate_of estimate.now) boxes types.now × (b < boxes) × GatheredOf (estimate_of estimate.now) boxes b g }
-    ensures { GatheredOf (estimate_of estimate.now) boxes b result × (result.types ≡ x) × (result.on ≡ g.on) × (result.all ≡ g.all) }
-{
-    if x == g.types {
-        g
-    } else {
+// An estimate, and of each box all that it may send on its shown names and the union of its types on them.
+#[derive(Clone, Copy)]
+pub struct Tables<'a> {
+    pub estimate: &'a [u8],
+    pub boxes: usize,
+    pub sends: [u64; 8],
+    pub types: [u64; 8],
+    pub ghost known: { EstimateOfNames estimate.now boxes },
+    pub ghost sent: { Sends estimate.now boxes sends },
+    pub ghost typed: { TypeTable (estimate_of estimate.now) boxes types },
+}
+
+impl<'a> Tables<'a> {
+    // The tables of an estimate that has been read.
+    pub fn new(estimate: &'a [u8], boxes: usize) -> Tables<'a>
+        requires { EstimateOfNames estimate.now boxes }
+        ensures of { result.estimate.now ≡ estimate.now }
+        ensures boxes { result.boxes ≡ boxes }
+    {
+        Tables {
+            estimate,
+            boxes,
+            sends: sends(estimate, boxes),
+            types: links::all_types(estimate, boxes),
+        }
+    }
+
+    // w with what clause 6 asks for the type x at each shown name of box k, where box k's types share a name with x.
+    #[tactic(auto, using(crate::proofs::Gather::gathered))]
+    fn join_shown(&self, x: u64, k: usize, w: u64) -> u64
+        requires { k < self.now.boxes }
+        ensures { Joined result w (all_shared_in (estimate_of self.now.estimate.now) x k ((estimate_of self.now.estimate.now).shown k)) }
+    {
+        if !sets::intersects(x, self.types[k]) {
+            return w;
+        }
+        let s = estimate::shown(self.estimate, k);
+        join_names(self.estimate, x, k, s, self.sends[k], w)
+    }
+
+    // What clause 6 asks at names of box b whose types have the union x.
+    #[tactic(auto, using(crate::proofs::Gather::gathers))]
+    fn shared_with(&self, b: usize, x: u64) -> u64
+        requires { b < self.now.boxes }
+        ensures { Least result (shared_by_others (estimate_of self.now.estimate.now) self.now.boxes b x) }
+    {
+        let mut w: u64 = 0;
+        for k in 0..self.boxes {
+            if k != b {
+                w = self.join_shown(x, k, w);
+            }
+        }
+        w
+    }
+
+    // Clause 6, for inputs whose types have the union x.
+    #[tactic(auto, using(crate::proofs::Gather::gathered))]
+    fn for_types(&self, b: usize, x: u64, g: Gathered) -> Gathered
+        requires box_in { b < self.now.boxes }
+        requires gathered { GatheredOf (estimate_of self.now.estimate.now) self.now.boxes b g }
+        ensures gathered { GatheredOf (estimate_of self.now.estimate.now) self.now.boxes b result }
+        ensures types { result.types ≡ x }
+        ensures kept { (result.on ≡ g.on) × (result.all ≡ g.all) }
+    {
+        if x == g.types {
+            return g;
+        }
         Gathered {
-            out: g.out,
-            most: g.most,
-            on: g.on,
-            all: g.all,
             types: x,
-            asks: shared_with(estimate, sends, types, boxes, b, x),
+            asks: self.shared_with(b, x),
+            ..g
         }
     }
-}
 
-// Clause 6, for inputs on a channel whose rho(p) is s: by the union of the types of its shown names.
-pub fn for_partners(
-    estimate: &[u8],
-    sends: &[u64; 8],
-    types: &[u64; 8],
-    boxes: usize,
-    b: usize,
-    s: u64,
-    g: Gathered,
-) -> Gathered
-    requires { EstimateOfNames estimate.now boxes × Sends estimate.now boxes sends.now × TypeTable (estimate_of estimate.now) boxes types.now × (b < boxes) × NamesOnly s × GatheredOf (estimate_of estimate.now) boxes b g }
-    ensures { GatheredOf (estimate_of estimate.now) boxes b result × Least result.asks (shared_on (estimate_of estimate.now) boxes b s) × (result.on ≡ g.on) × (result.all ≡ g.all) }
-{
-    let shown = sets::intersection(s, estimate::shown(estimate, b));
-    let x = links::types_on(estimate, b, shown);
-    for_types(estimate, sends, types, boxes, b, x, g)
+    // Clause 6, for inputs on a channel whose rho(p) is s: by the union of the types of its shown names.
+    #[tactic(auto, using(crate::proofs::Gather::gathered))]
+    pub fn for_partners(&self, b: usize, s: u64, g: Gathered) -> Gathered
+        requires box_in { b < self.now.boxes }
+        requires names { NamesOnly s }
+        requires gathered { GatheredOf (estimate_of self.now.estimate.now) self.now.boxes b g }
+        ensures gathered { GatheredOf (estimate_of self.now.estimate.now) self.now.boxes b result }
+        ensures asks { Least result.asks (shared_on (estimate_of self.now.estimate.now) self.now.boxes b s) }
+        ensures kept { (result.on ≡ g.on) × (result.all ≡ g.all) }
+    {
+        let shown = sets::intersection(s, estimate::shown(self.estimate, b));
+        let x = links::types_on(self.estimate, b, shown);
+        self.for_types(b, x, g)
+    }
 }

@@ -11,61 +11,59 @@ ghost use Rattle.subsets.specs.Within.{within_in};
 ghost use Rattle.clauses.specs.Known.{BoxOfNames, LineOfNames, MetWhere};
 
 use records::Line;
-use subsets::Within;
+use sets::{Ascending, NameNo};
 
 // q within kap(b, a) for each a in s, ascending.
-fn each_sent(estimate: &[u8], b: usize, s: u64, q: u64) -> Within
-    requires { (512 * (3 + 2 * b) ≤ length estimate.now) × NamesOnly s }
+#[tactic(auto, using(clauses::proofs::Members::shorts))]
+fn each_sent(estimate: &[u8], b: usize, s: u64, q: u64) -> Result<(), NameNo>
+    requires there { 512 * (3 + 2 * b) ≤ length estimate.now }
+    requires names { NamesOnly s }
     ensures { within_in result ≡ names.first_short s (λ a. names.missing q ((estimate_of estimate.now).kap b a)) }
 {
-    let mut left = s;
-    while left != 0 {
-        let a = sets::lowest(left);
-        let r = subsets::missing(q, estimate::kap(estimate, b, a));
-        if let Within::Lacks(_) = r {
-            return r;
-        }
-        left = sets::without_lowest(left);
+    for a in Ascending(s) {
+        subsets::missing(q, estimate::kap(estimate, b, a))?;
     }
-    Within::Yes
+    Ok(())
 }
 
 // 4. output on p of q: for each a in rho(p), rho(q) within kap(b, a). most: names that every kap(b, a) has.
-pub fn clause4(estimate: &[u8], most: u64, b: usize, l: Line) -> Within
-    requires { BoxOfNames estimate.now b × LineOfNames (line_in l) × MetWhere (names.within ((estimate_of estimate.now).rho l.name2.0) most) (clauses.clause4 (estimate_of estimate.now) b (line_in l)) }
+#[tactic(auto, using(crate::proofs::Walks::found))]
+pub fn clause4(estimate: &[u8], most: u64, b: usize, l: Line) -> Result<(), NameNo>
+    requires names { BoxOfNames estimate.now b }
+    requires line { LineOfNames (line_in l) }
+    requires met { MetWhere (names.within ((estimate_of estimate.now).rho l.name2.0) most) (clauses.clause4 (estimate_of estimate.now) b (line_in l)) }
     ensures { within_in result ≡ clauses.clause4 (estimate_of estimate.now) b (line_in l) }
 {
     if clauses::sends_within(estimate, most, l) {
-        return Within::Yes;
+        return Ok(());
     }
     let s = estimate::rho(estimate, l.name1);
     each_sent(estimate, b, s, estimate::rho(estimate, l.name2))
 }
 
 // kap(b, a) within q for each a in s, ascending.
-fn each_received(estimate: &[u8], b: usize, s: u64, q: u64) -> Within
-    requires { (512 * (3 + 2 * b) ≤ length estimate.now) × NamesOnly s }
+#[tactic(auto, using(clauses::proofs::Members::shorts))]
+fn each_received(estimate: &[u8], b: usize, s: u64, q: u64) -> Result<(), NameNo>
+    requires there { 512 * (3 + 2 * b) ≤ length estimate.now }
+    requires names { NamesOnly s }
     ensures { within_in result ≡ names.first_short s (λ a. names.missing ((estimate_of estimate.now).kap b a) q) }
 {
-    let mut left = s;
-    while left != 0 {
-        let a = sets::lowest(left);
-        let r = subsets::missing(estimate::kap(estimate, b, a), q);
-        if let Within::Lacks(_) = r {
-            return r;
-        }
-        left = sets::without_lowest(left);
+    for a in Ascending(s) {
+        subsets::missing(estimate::kap(estimate, b, a), q)?;
     }
-    Within::Yes
+    Ok(())
 }
 
 // 5. input on p into q: for each a in rho(p), kap(b, a) within rho(q). all: the union of kap(b, a).
-pub fn clause5(estimate: &[u8], all: u64, b: usize, l: Line) -> Within
-    requires { BoxOfNames estimate.now b × LineOfNames (line_in l) × MetWhere (names.within all ((estimate_of estimate.now).rho l.name2.0)) (clauses.clause5 (estimate_of estimate.now) b (line_in l)) }
+#[tactic(auto, using(crate::proofs::Walks::found))]
+pub fn clause5(estimate: &[u8], all: u64, b: usize, l: Line) -> Result<(), NameNo>
+    requires names { BoxOfNames estimate.now b }
+    requires line { LineOfNames (line_in l) }
+    requires met { MetWhere (names.within all ((estimate_of estimate.now).rho l.name2.0)) (clauses.clause5 (estimate_of estimate.now) b (line_in l)) }
     ensures { within_in result ≡ clauses.clause5 (estimate_of estimate.now) b (line_in l) }
 {
     if clauses::takes(estimate, all, l) {
-        return Within::Yes;
+        return Ok(());
     }
     let s = estimate::rho(estimate, l.name1);
     each_received(estimate, b, s, estimate::rho(estimate, l.name2))

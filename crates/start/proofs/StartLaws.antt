@@ -3,19 +3,16 @@
 use mathlib.Core.Path.{◌≡◌, refl, sym, ap, ap₂, subst, ◌∙◌}
 use mathlib.Core.Bool.{not}
 use mathlib.Core.List.{List, [], ◌∷◌, ◌++◌, append-nil, map}
-use mathlib.Core.Option.{Option, none}
+use mathlib.Core.Option.{Option, none, some}
 use Prim.Native.Nat.{ℕ, suc, ◌+◌, ◌-◌, ◌*◌, ◌^◌, ◌≤◌, ◌<◌, zero-le}
 use native.Mathlib.Nat.{le_refl, le_antisymm}
 use native.Mathlib.Numerals.{add-one}
 use native.Mathlib.Omega.{arith}
-use borrow.Author.Rules.{rules}
-use borrow.Author.Fill.{fill_more}
-use borrow.Rule.Slice.PartMut.{same_len_mid}
 use mir.Syntax.{w32, w64}
 use mir.Val.{Fits}
 use lib.Dec.{eqb, eqb→eq}
-use lib.ListN.{length, get_or, take, drop, set, replicate, length-append, length-set, take-append-drop}
-use lib.Seq.{drop-drop, take-suc-set, drop-set-lt, append_snoc, drop-length, length-take-le}
+use lib.ListN.{length, get_or, take, drop, set, replicate, length-append, length-set, length-drop, take-append-drop}
+use lib.Seq.{drop-drop, take-suc-set, drop-set-lt, append_snoc, length-take-le}
 use Rattle.definitions.specs.Bounded.{◌isnt◌, some_if, or_else}
 use Rattle.definitions.specs.Sets.{members, size}
 use Rattle.definitions.specs.Slots.{zeros}
@@ -25,62 +22,28 @@ use Rattle.definitions.specs.Image.{site_record, model_of}
 use Rattle.definitions.specs.ReadModel.{read_model}
 use Rattle.definitions.specs.Record.{held, site, put_site, record_of, put_record}
 use Rattle.definitions.specs.Start.{type_words, free_held, start_site, start_record, start_state}
-use Rattle.definitions.specs.Answer.{refusal}
+use Rattle.definitions.specs.Answer.{Refusal, refusal}
 use Rattle.definitions.specs.Calls as calls
 use Rattle.definitions.proofs.Faults.{passed_iff}
 use Rattle.definitions.proofs.Slots.{length-zeros, drop-zeros}
-use Rattle.definitions.proofs.TypeWords.{free_ascending, type_filled, length-type_words}
+use Rattle.definitions.proofs.TypeWords.{free_ascending, type_filled}
 use Rattle.definitions.proofs.Start.{start-site-length, filled, filled_none, filled-length, filled_past, filled_next, alone_past, alone_next, site_words, site_words_lem, each_site, filled_record, record_words, record_words_lem, each_record, filled_state}
 use Rattle.definitions.proofs.Image.{model_count}
 use Rattle.definitions.proofs.ReadModel.{valid_image}
-use Rattle.refusals.specs.declared.Refusal as code
-use Rattle.refusals.specs.declared.Answer.{Answer}
-use Rattle.refusals.specs.declared.Answer.TheVariants.{NoRefusal, Refused}
-use Rattle.refusals.specs.Answers.{answer_in}
-use Rattle.refusals.proofs.Answers.{is_none, first-none, second_none}
-use Rattle.sets.specs.Lowest.{lowest_of, WithoutLowest}
-use Rattle.sets.proofs.Walk.{Left, left_start, left_turn, left_in, lowest-below, walk_less}
+use Rattle.sets.specs.Ascending.{LowestOf}
+use Rattle.sets.proofs.Walk.{Left, left_start, left_turn, left_in, lowest-below}
 use Rattle.sets.proofs.Members.{members-none, members-some, members-first, length-size}
 use Rattle.records.specs.Places.{SitesAt}
 use Rattle.records.proofs.PlaceLaws.{site-at, site-count}
 use Rattle.layouts.specs.declared.Layout.{Layout}
 use Rattle.layouts.specs.LayoutOf.{LayoutOf}
 use Rattle.model.proofs.Models.{unrefused_room, unrefused_sites}
-use Rattle.state.proofs.Records.{record_part}
-use Rattle.state.proofs.Parts.{back_record, lent-site, back-site}
+use Rattle.state.proofs.Parts.{first_words, back_first, lent-site, back-site}
 use Rattle.start.specs.NamesOnly.{TypeOfNames, SiteOfNames}
 
 -- box b of an image's model
 abbrev box_in : List ℕ → ℕ → paper.Box
 box_in image b = paper.box_at (model_of image) b
-
--- ---- every word zeroed
-
--- the first i words of d are zeroed
-pub record Zeroed (d : List ℕ) (i : ℕ) (s : List ℕ) : Type 0 where
-  pub size : length s ≡ 9112
-  pub upto : i ≤ 9112
-  pub same : s ≡ replicate i 0 ++ drop i d
-
-module _ (d : List ℕ) (size : length d ≡ 9112) where
-  pub clear-start : Zeroed d 0 d
-  clear-start = record { size = size; upto = zero-le; same = refl }
-
-  module _ (i : ℕ) (s : List ℕ) (w : Zeroed d i s) where
-    -- n is where the loop ends
-    pub clear-turn : (n : ℕ) → i < n → n ≤ 9112 → Zeroed d (i + 1) (set s i 0)
-    clear-turn n h k = record {
-      size = length-set s i 0 ∙ w.size;
-      upto = omega arith;
-      same = ap (λ (x : List ℕ). set x i 0) w.same ∙ fill_more i 0 d (omega arith);
-    }
-
-    pub clear_end : 9112 ≤ i → s ≡ zeros 9112
-    unfolding zeros
-    clear_end h =
-        let e : i ≡ length d = omega (arith, w.upto) in
-        w.same ∙ ap (λ (n : ℕ). replicate n 0 ++ drop n d) e ∙ ap (λ (x : List ℕ). replicate (length d) 0 ++ x) (drop-length d)
-        ∙ append-nil (replicate (length d) 0) ∙ ap (λ (n : ℕ). replicate n 0) size
 
 -- ---- the names of a type, lowest first
 
@@ -102,38 +65,37 @@ names_start type x h e k = record {
 }
 
 module _ (type left i : ℕ) (x : List ℕ) (w : NamesWritten type left i x) where
-  pub names_in : (left ≡ 0 → ⊥) → i < length x
-  names_in more = omega (arith, w.size, w.room, members-some left w.there.fit more)
+  module _ (n t : ℕ) (d : LowestOf left n t) where
+    more : left ≡ 0 → ⊥
+    more z = absurd (omega (arith, d.some_left))
 
-  module _ (n : ℕ) (more : left ≡ 0 → ⊥) (e : n ≡ lowest_of left) where
+    pub names_in : i < length x
+    names_in = omega (arith, w.size, w.room, members-some left w.there.fit more)
+
     pub names_60 : TypeOfNames type → n < 60
-    names_60 k = k.names.below n (lowest-below left n w.there.fit more e) (left_in type left n w.there more e)
+    names_60 k = k.names.below n (lowest-below left n w.there.fit more d.lowest) (left_in type left n w.there more d.lowest)
 
-    module _ (t : ℕ) (r : WithoutLowest left t) where
-      first : members left ≡ n ∷ members t
-      first = members-first left t n w.there.fit more e r
+    first : members left ≡ n ∷ members t
+    first = members-first left t n w.there.fit more d.lowest d.others
 
-      pub names_turn : (v : ℕ) → v ≡ held n 0 → NamesWritten type t (i + 1) (set x i v)
-      names_turn v q =
-          let l : length (members left) ≡ suc (length (members t)) = ap length first in
-          let z : 8 - i ≡ 1 + (8 - (i + 1)) = omega (arith, w.room) in
-          record {
-            there = left_turn type left t w.there more r;
-            size = length-set x i v ∙ w.size;
-            same =
-                ap (λ (k : ℕ). take k (set x i v) ++ map free_held (members t)) (add-one i)
-                ∙ ap (λ (y : List ℕ). y ++ map free_held (members t)) (take-suc-set x i v (names_in more))
-                ∙ append_snoc (take i x) v (map free_held (members t))
-                ∙ ap (λ (u : ℕ). take i x ++ u ∷ map free_held (members t)) q
-                ∙ ap (λ (y : List ℕ). take i x ++ map free_held y) (sym first) ∙ w.same;
-            clear =
-                drop-set-lt (i + 1) x i v (omega arith) ∙ sym (drop-drop 1 i x) ∙ ap (drop 1) (w.clear ∙ ap zeros z)
-                ∙ drop-zeros 1 (1 + (8 - (i + 1))) (omega arith) ∙ ap zeros (let y : 1 + (8 - (i + 1)) - 1 ≡ 8 - (i + 1) = omega arith in y);
-            room = omega (arith, w.room);
-          }
-
-  pub names_same : (y : List ℕ) → y ≡ zeros 8 → length x ≡ length y
-  names_same y e = w.size ∙ sym (ap length e ∙ length-zeros 8)
+    pub names_turn : (v : ℕ) → v ≡ held n 0 → NamesWritten type t (i + 1) (set x i v)
+    names_turn v q =
+        let l : length (members left) ≡ suc (length (members t)) = ap length first in
+        let z : 8 - i ≡ 1 + (8 - (i + 1)) = omega (arith, w.room) in
+        record {
+          there = left_turn type left t w.there more d.others;
+          size = length-set x i v ∙ w.size;
+          same =
+              ap (λ (k : ℕ). take k (set x i v) ++ map free_held (members t)) (add-one i)
+              ∙ ap (λ (y : List ℕ). y ++ map free_held (members t)) (take-suc-set x i v names_in)
+              ∙ append_snoc (take i x) v (map free_held (members t))
+              ∙ ap (λ (u : ℕ). take i x ++ u ∷ map free_held (members t)) q
+              ∙ ap (λ (y : List ℕ). take i x ++ map free_held y) (sym first) ∙ w.same;
+          clear =
+              drop-set-lt (i + 1) x i v (omega arith) ∙ sym (drop-drop 1 i x) ∙ ap (drop 1) (w.clear ∙ ap zeros z)
+              ∙ drop-zeros 1 (1 + (8 - (i + 1))) (omega arith) ∙ ap zeros (let y : 1 + (8 - (i + 1)) - 1 ≡ 8 - (i + 1) = omega arith in y);
+          room = omega (arith, w.room);
+        }
 
   pub names_end : left ≡ 0 → x ≡ type_words free_held type
   names_end z =
@@ -166,13 +128,6 @@ module _ (x : List ℕ) (e : x ≡ zeros 10) where
       unfolding zeros
       site_rest = ap (λ (y : List ℕ). take 8 (drop 2 (set (set y 0 v) 1 f))) e
 
-      pub site-kept : (t : ℕ) (y : List ℕ) → y ≡ type_words free_held t
-          → length (take 2 (set (set x 0 v) 1 f) ++ (y ++ drop 8 (drop 2 (set (set x 0 v) 1 f)))) ≡ length x
-      site-kept t y q =
-          same_len_mid 2 8 (set (set x 0 v) 1 f) y
-          (ap length q ∙ length-type_words free_held t ∙ sym (ap length site_rest ∙ length-zeros 8))
-          ∙ length-set (set x 0 v) 1 f ∙ length-set x 0 v
-
       pub site-is : (s : paper.Site) (y : List ℕ) → v ≡ held s.subject 0 → f ≡ s.flag → y ≡ type_words free_held s.type
           → take 2 (set (set x 0 v) 1 f) ++ (y ++ drop 8 (drop 2 (set (set x 0 v) 1 f))) ≡ start_site s
       unfolding zeros start_site
@@ -204,12 +159,6 @@ pub record SitesWritten (image : List ℕ) (b k n i : ℕ) (r : List ℕ) : Type
   pub same : r ≡ (0 ∷ 1 ∷ n ∷ []) ++ filled 10 16 (site_words (box_in image b)) i ++ zeros 976
 
 module _ (r : List ℕ) (e : r ≡ zeros 1139) where
-  pub record_second : 1 < length r
-  record_second = omega (arith, ap length e, length-zeros 1139)
-
-  pub record_third : (v : ℕ) → 2 < length (set r 1 v)
-  record_third v = omega (arith, ap length e, length-zeros 1139, length-set r 1 v)
-
   pub sites-start : (image : List ℕ) (b k n : ℕ) → SitesAt image b k n → SitesWritten image b k n 0 (set (set r 1 1) 2 n)
   unfolding zeros
   sites-start image b k n h = record {
@@ -226,13 +175,7 @@ module _ (image : List ℕ) (b k n i : ℕ) (r : List ℕ) (w : SitesWritten ima
       ap length w.same ∙ length-append ((0 ∷ 1 ∷ n ∷ []) ++ filled 10 16 (site_words (box_in image b)) i) (zeros 976)
       ∙ omega (arith, length-zeros 976, filled-length 10 16 (site_words (box_in image b)) (each_site (box_in image b)) i)
 
-  pub sites-same : (z : List ℕ) → z ≡ zeros 1139 → length r ≡ length z
-  sites-same z e = sites-length ∙ sym (ap length e ∙ length-zeros 1139)
-
   module _ (l : i < n) where
-    pub site_end : 3 + 10 * i + 10 ≤ length r
-    site_end = omega (arith, sites-length, w.there.few)
-
     pub site_31 : i < 31
     site_31 = omega (arith, w.there.few)
 
@@ -284,39 +227,42 @@ pub record RecordsWritten (image : List ℕ) (boxes b : ℕ) (st : List ℕ) : T
   pub upto : b ≤ boxes
   pub same : st ≡ filled 1139 8 (record_words (model_of image)) b
 
-pub records_start : (image : List ℕ) (layout : Layout) (st : List ℕ) → read_model image ≡ none → LayoutOf image layout → st ≡ zeros 9112
-    → RecordsWritten image layout.boxes 0 st
-records_start image layout st read h e = record {
+-- d is the state as it was lent
+pub records_start : (image : List ℕ) (layout : Layout) (d st : List ℕ) → read_model image ≡ none → LayoutOf image layout → length d ≡ 9112
+    → st ≡ replicate (length d) 0 → RecordsWritten image layout.boxes 0 st
+unfolding zeros
+records_start image layout d st read h size e = record {
   most = omega (arith, h.frame.boxes, model_count image, (valid_image image read).most_boxes);
   count = h.frame.boxes ∙ sym (model_count image);
   upto = zero-le;
-  same = e ∙ sym (filled_none 1139 8 (record_words (model_of image)));
+  same = e ∙ ap (λ (n : ℕ). replicate n 0) size ∙ sym (filled_none 1139 8 (record_words (model_of image)));
 }
 
 module _ (image : List ℕ) (boxes b : ℕ) (st : List ℕ) (w : RecordsWritten image boxes b st) where
   records_length : length st ≡ 9112
   records_length = ap length w.same ∙ filled-length 1139 8 (record_words (model_of image)) (each_record (model_of image)) b
 
-  pub records_same : (z : List ℕ) → length z ≡ 9112 → length st ≡ length z
-  records_same z e = records_length ∙ sym e
-
   module _ (l : b < boxes) where
-    pub record_end : 1139 * b + 1139 ≤ length st
-    record_end = omega (arith, w.most, records_length)
+    pub record_start : 1139 * b ≤ length st
+    record_start = omega (arith, w.most, records_length)
 
-    pub record_clear : take (1139 * b + 1139 - 1139 * b) (drop (1139 * b) st) ≡ zeros 1139
-    record_clear =
-        record_part st b ∙ ap (λ (y : List ℕ). record_of y b) w.same
+    pub record_room : (r : List ℕ) → r ≡ drop (1139 * b) st → 1139 ≤ length r
+    record_room r e = omega (arith, w.most, records_length, ap length e, length-drop (1139 * b) st)
+
+    -- the state is split before the record of box b
+    pub record_clear : (r back : List ℕ) → r ≡ take 1139 back → back ≡ drop (1139 * b) st → r ≡ zeros 1139
+    record_clear r back e q =
+        e ∙ ap (take 1139) q ∙ first_words st b ∙ ap (λ (y : List ℕ). record_of y b) w.same
         ∙ alone_past 1139 8 (record_words (model_of image)) (each_record (model_of image)) b b (omega (arith, w.most)) (le_refl b)
 
-    pub records_turn : (y : List ℕ) → y ≡ start_record (box_in image b)
-        → RecordsWritten image boxes (b + 1) (take (1139 * b) st ++ (y ++ drop (1139 * b + 1139 - 1139 * b) (drop (1139 * b) st)))
-    records_turn y e = let q : y ≡ record_words (model_of image) b = e ∙ sym (record_words_lem (model_of image) b) in record {
+    pub records_turn : (front back y : List ℕ) → front ≡ take (1139 * b) st → back ≡ drop (1139 * b) st → y ≡ start_record (box_in image b)
+        → RecordsWritten image boxes (b + 1) (front ++ (y ++ drop 1139 back))
+    records_turn front back y f g e = let q : y ≡ record_words (model_of image) b = e ∙ sym (record_words_lem (model_of image) b) in record {
       most = w.most;
       count = w.count;
       upto = omega arith;
       same =
-          back_record st y b (ap length q ∙ each_record (model_of image) b) ∙ ap₂ (λ (a c : List ℕ). put_record a b c) w.same q
+          ap₂ (λ (a c : List ℕ). a ++ (y ++ drop 1139 c)) f g ∙ back_first st y b (ap length q ∙ each_record (model_of image) b) ∙ ap₂ (λ (a c : List ℕ). put_record a b c) w.same q
           ∙ alone_next 1139 8 (record_words (model_of image)) (each_record (model_of image)) b (omega (arith, w.most));
     }
 
@@ -326,42 +272,34 @@ module _ (image : List ℕ) (boxes b : ℕ) (st : List ℕ) (w : RecordsWritten 
 
 -- ---- the call
 
--- a is the model's answer, c that of the length, and r the first of both
-module _ (image words : List ℕ) (a c r : Answer) (ea : answer_in a ≡ read_model image)
-    (ec : answer_in c ≡ some_if (not (eqb (length words) 9112)) (refusal 10 0 0)) (er : answer_in r ≡ or_else (answer_in a) (answer_in c)) where
-  pub start_answer : answer_in r ≡ (calls.start image words).answer
-  unfolding calls.start calls.start_refusal ◌isnt◌
-  start_answer = er ∙ ap₂ or_else ea ec
+module _ (image words : List ℕ) where
+  -- the model is refused, or the length, or neither
+  pub refused_model : (r : Refusal) → some r ≡ read_model image → some r ≡ (calls.start image words).answer
+  unfolding calls.start calls.start_refusal
+  refused_model r e = ap (λ (o : Option _). or_else o (some_if (length words isnt 9112) (refusal 10 0 0))) e
 
-  pub start-kept : (x : code.Refusal) → r ≡ Refused x → words ≡ (calls.start image words).words
-  unfolding calls.start calls.start_refusal ◌isnt◌
-  start-kept x q = ap (λ (o : Option _). calls.written o (start_state (model_of image)) words) (sym (ap answer_in q) ∙ start_answer)
-
-  module _ (q : r ≡ NoRefusal) where
-    pub start_read : read_model image ≡ none
-    start_read = is_none (read_model image) a ea (first-none a c r er q)
-
-    pub start_model : a ≡ NoRefusal
-    start_model = first-none a c r er q
-
-    pub start-room : length words ≡ 9112
-    start-room =
-        eqb→eq (length words) 9112
-        ((passed_iff (eqb (length words) 9112) (refusal 10 0 0)).0 (is_none _ c ec (second_none a c r er q)))
-
-    pub start-written : (st : List ℕ) → st ≡ start_state (model_of image) → st ≡ (calls.start image words).words
+  module _ (read : none ≡ read_model image) (o : Option Refusal) (e : o ≡ some_if (not (eqb (length words) 9112)) (refusal 10 0 0)) where
+    pub start_answer : o ≡ (calls.start image words).answer
     unfolding calls.start calls.start_refusal ◌isnt◌
-    start-written st e =
-        e ∙ ap (λ (o : Option _). calls.written o (start_state (model_of image)) words) (sym (ap answer_in q) ∙ start_answer)
+    start_answer = e ∙ ap (λ (a : Option _). or_else a (some_if (length words isnt 9112) (refusal 10 0 0))) read
 
-pub ruleset clears = (rules, clear-start, clear-turn, clear_end)
+    pub start_room : o ≡ none → length words ≡ 9112
+    start_room z = eqb→eq (length words) 9112 ((passed_iff (eqb (length words) 9112) (refusal 10 0 0)).0 (sym e ∙ z))
 
-pub ruleset names = (rules, walk_less, names_start, names_60, names_in, names_turn, names_same, names_end)
+  pub start_kept : (r : Refusal) → some r ≡ (calls.start image words).answer → words ≡ (calls.start image words).words
+  unfolding calls.start
+  start_kept r e = ap (λ (o : Option _). calls.written o (start_state (model_of image)) words) e
 
-pub ruleset sites = (rules, site-first, site-second, site-room, site_rest, site-is, site-kept)
+  pub start_written : (st : List ℕ) → none ≡ (calls.start image words).answer → st ≡ start_state (model_of image) → st ≡ (calls.start image words).words
+  unfolding calls.start
+  start_written st e q = q ∙ ap (λ (o : Option _). calls.written o (start_state (model_of image)) words) e
 
-pub ruleset records = (rules, box_room, box_scaled, box_sites, count_fits, record_second, record_third, sites-start, sites-same, site_end, site_31, site-clear, site_names, sites-turn, sites_end)
+pub ruleset names = (names_in, names_start, names_60, names_turn, names_end)
 
-pub ruleset states = (rules, records_start, records_same, record_end, record_clear, records_turn, records_end)
+pub ruleset sites = (site-first, site-second, site-room, site_rest, site-is)
 
-pub ruleset starts = (rules, start_answer, start-kept, start_read, start_model, start-room, start-written)
+pub ruleset records = (box_scaled, box_room, box_sites, count_fits, sites-start, site_31, site-clear, site_names, sites-turn, sites_end)
+
+pub ruleset states = (records_start, record_start, record_room, record_clear, records_turn, records_end)
+
+pub ruleset starts = (refused_model, start_answer, start_room, start_kept, start_written)

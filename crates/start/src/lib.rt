@@ -17,104 +17,75 @@ ghost use Rattle.start.specs.NamesOnly.{TypeOfNames, SiteOfNames};
 
 use layouts::Layout;
 use records::Site;
-use refusals::Answer;
-
-// Every word of a state is zeroed.
-fn clear(state: &mut [u32])
-    requires { length state.old ≡ state_length }
-    ensures { state.new ≡ zeros state_length }
-{
-    let mut i = 0;
-    while i < 9112 {
-        state[i] = 0;
-        i += 1;
-    }
-}
+use refusals::{Refusal, Rule};
+use sets::Ascending;
 
 // The names of a type, lowest first, each with stamp 0, into eight words that are zero.
+#[tactic(auto, using(crate::proofs::StartLaws::names))]
 fn write_names(words: &mut [u32], names: u64)
-    requires { (words.old ≡ zeros type_limit) × TypeOfNames names }
+    requires clear { words.old ≡ zeros type_limit }
+    requires names { TypeOfNames names }
     ensures { words.new ≡ type_words free_held names }
 {
-    let mut left = names;
-    let mut i = 0;
-    while left != 0 {
-        let held = state::stamped(sets::lowest(left), 0);
-        words[i] = held.0;
-        left = sets::without_lowest(left);
-        i += 1;
+    for (i, n) in Ascending(names).enumerate() {
+        words[i] = state::stamped(n, 0).0;
     }
-}
-
-fn wide(b: u8) -> u32
-    ensures { result ≡ b }
-{
-    b as u32
 }
 
 // A site, into ten words that are zero: its subject with stamp 0, 0 shown or 1 hidden, its type.
+#[tactic(auto, using(crate::proofs::StartLaws::sites))]
 fn write_site(words: &mut [u32], s: Site)
-    requires { (words.old ≡ zeros site_width) × SiteOfNames (site_in s) }
+    requires clear { words.old ≡ zeros site_width }
+    requires site { SiteOfNames (site_in s) }
     ensures { words.new ≡ start_site (site_in s) }
 {
-    let subject = state::stamped(s.subject, 0);
-    words[0] = subject.0;
-    words[1] = wide(s.flag);
+    words[0] = state::stamped(s.subject, 0).0;
+    words[1] = u32::from(s.flag);
     write_names(&mut words[2..10], s.names);
 }
 
 // The record of box b, into words that are zero: one thread, which stands at line 0, and the sites.
-fn start_record(model: &[u8], layout: Layout, b: usize, r: &mut [u32])
-    requires model_value { (read_model model.now ≡ none) × LayoutOf model.now layout }
-    requires b_lt_boxes { (b < layout.boxes) × (r.old ≡ zeros record_length) }
+#[tactic(auto, using(crate::proofs::StartLaws::records))]
+fn start_record(model: &[u8], layout: Layout, b: usize, r: &mut [u32; 1139])
+    requires model { read_model model.now ≡ none }
+    requires layout { LayoutOf model.now layout }
+    requires there { b < layout.boxes }
+    requires clear { r.old ≡ zeros record_length }
     ensures { r.new ≡ start_record (box_at (model_of model.now) b) }
 {
-    let at = layout.at;
-    let sites = layout.sites;
-    let k = at[b];
-    let count = sites[b];
+    let count = layout.sites[b];
     r[1] = 1;
     r[2] = count as u32;
-    let mut i = 0;
-    while i < count {
+    for i in 0..count {
         let from = 3 + 10 * i;
-        let to = from + 10;
-        write_site(&mut r[from..to], records::inside::site(model, k, i));
-        i += 1;
+        let site = records::inside::site(model, layout.at[b], i);
+        write_site(&mut r[from..from + 10], site);
     }
 }
 
 // The whole state: the record of each box of the model, and zeros for each box that the model lacks.
+#[tactic(auto, using(crate::proofs::StartLaws::states))]
 fn write(model: &[u8], layout: Layout, state: &mut [u32])
-    requires model_value { (read_model model.now ≡ none) × LayoutOf model.now layout }
-    requires state_len { length state.old ≡ state_length }
+    requires model { read_model model.now ≡ none }
+    requires layout { LayoutOf model.now layout }
+    requires long { length state.old ≡ state_length }
     ensures { state.new ≡ start_state (model_of model.now) }
 {
-    clear(state);
-    let boxes = layout.boxes;
-    let mut b = 0;
-    while b < boxes {
-        let next = b + 1;
-        let from = 1139 * b;
-        let to = from + 1139;
-        start_record(model, layout, b, &mut state[from..to]);
-        b = next;
+    state.fill(0);
+    for b in 0..layout.boxes {
+        let (_, words) = state.split_at_mut(1139 * b);
+        start_record(model, layout, b, state::first_record(words));
     }
 }
 
 // A model is started into the lent words. Refused for the model, then with 10.
-pub fn start(model: &[u8], state: &mut [u32]) -> Answer
+#[tactic(auto, using(crate::proofs::StartLaws::starts))]
+pub fn start(model: &[u8], state: &mut [u32]) -> Result<(), Refusal>
     ensures answer { answer_in result ≡ (calls.start model.now state.old).answer }
     ensures words { state.new ≡ (calls.start model.now state.old).words }
 {
-    let read = model::read(model);
-    let refused = read.answer;
-    let room = refusals::fault_if(state.len() != 9112, 10, 0, 0);
-    let answer = refusals::first_of(refused, room);
-    if let Answer::Refused(_) = answer {
-        return answer;
-    }
-    let layout = read.layout;
+    let layout = model::read(model)?;
+    refusals::fault_if(state.len() != 9112, Rule::Room, 0, 0)?;
     write(model, layout, state);
-    answer
+    Ok(())
 }

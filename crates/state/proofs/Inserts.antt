@@ -1,21 +1,21 @@
 -- A held name put into the words of a type, one place after the other. Assumes nothing.
-use mathlib.Core.Path.{◌≡◌, refl, ap, subst, sym, ◌∙◌}
-use mathlib.Core.Logic.{◌⊎◌, inl, inr, ◌≢◌}
+use mathlib.Core.Path.{◌≡◌, refl, ap, sym, ◌∙◌}
+use mathlib.Core.Logic.{◌≢◌}
 use mathlib.Core.Bool.{Bool, true, false}
 use mathlib.Core.List.{List, [], ◌∷◌, ◌++◌, append_assoc}
-use Prim.Native.Nat.{ℕ, zero, suc, ◌+◌, ◌-◌, ◌≤◌, ◌<◌, min, max}
+use Prim.Native.Nat.{ℕ, zero, suc, ◌+◌, ◌≤◌, ◌<◌, min, max}
 use native.Mathlib.Numerals.{add-one}
 use native.Mathlib.Omega.{arith}
 use native.Mathlib.Decide.{dec_lt}
 use borrow.Author.Rules.{rules}
 use lib.ListN.{length, take, drop, set, length-append, length-drop, length-set}
-use lib.Seq.{drop-cons, drop-length, set_at, get_or_at, set-get_or}
+use lib.Seq.{drop-cons, drop-length, set_at, get_or_at}
 use Rattle.definitions.specs.Bounded.{◌is◌, ◌below◌}
 use Rattle.definitions.specs.Slots.{word, zeros, part, put}
 use Rattle.definitions.specs.Start.{insert}
 use Rattle.definitions.proofs.Bounded.{is_iff, below_iff, true_of, false_of}
 use Rattle.definitions.proofs.TypeWords.{All, Ascends, Place, before, there, behind, place, insert-first}
-use Rattle.definitions.proofs.Slots.{take-zeros, length_part, word-part, word-put_in, put-part, set-put}
+use Rattle.definitions.proofs.Slots.{take-zeros, length_part, word-put_in, put-part, set-put}
 use Rattle.state.specs.Edits.{inserted}
 
 -- the three ways on at a word y

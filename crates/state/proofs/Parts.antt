@@ -7,9 +7,9 @@ use native.Mathlib.Omega.{arith}
 use lib.ListN.{length, take, drop}
 use lib.Seq.{drop-drop}
 use Rattle.definitions.specs.Slots.{part, put, slot, put_slot}
-use Rattle.definitions.specs.Record.{site, put_site, put_record}
+use Rattle.definitions.specs.Record.{site, put_site, record_of, put_record}
 
-back-part : (s x : List ℕ) (a e : ℕ) → a ≤ e → length x ≡ e - a → take a s ++ (x ++ drop (e - a) (drop a s)) ≡ put s a x
+pub back-part : (s x : List ℕ) (a e : ℕ) → a ≤ e → length x ≡ e - a → take a s ++ (x ++ drop (e - a) (drop a s)) ≡ put s a x
 unfolding put
 back-part s x a e h l =
     sym (append_assoc (take a s) x (drop (e - a) (drop a s)))
@@ -37,3 +37,13 @@ lent-site r i = lent_slot 3 10 r i (3 + 10 * i) (omega arith)
 pub back-site : (r x : List ℕ) (i : ℕ) → length x ≡ 10
     → take (3 + 10 * i) r ++ (x ++ drop (3 + 10 * i + 10 - (3 + 10 * i)) (drop (3 + 10 * i) r)) ≡ put_site r i x
 back-site r x i l = back_slot 3 10 r i (3 + 10 * i) (omega arith) x l
+
+-- the record of box b as the first words of what follows its place, and the state with another record written there
+pub first_words : (st : List ℕ) (b : ℕ) → take 1139 (drop (1139 * b) st) ≡ record_of st b
+unfolding slot part
+first_words st b = ap (λ (n : ℕ). take 1139 (drop n st)) (let z : 1139 * b ≡ 0 + 1139 * b = omega arith in z)
+
+pub back_first : (st r : List ℕ) (b : ℕ) → length r ≡ 1139 → take (1139 * b) st ++ (r ++ drop 1139 (drop (1139 * b) st)) ≡ put_record st b r
+back_first st r b l =
+    ap (λ (n : ℕ). take (1139 * b) st ++ (r ++ drop n (drop (1139 * b) st))) (let z : 1139 ≡ 1139 * b + 1139 - 1139 * b = omega arith in z)
+    ∙ back_record st r b l

@@ -4,13 +4,15 @@ use mathlib.Core.List.{List}
 use Prim.Native.Nat.{ℕ, ◌+◌, ◌-◌, ◌*◌, ◌%◌, ◌<◌}
 use native.Mathlib.Omega.{arith}
 use borrow.Author.Rules.{rules}
-use lib.Dec.{eqb, leb, ltb}
-use lib.ListN.{take, drop}
-use Rattle.definitions.specs.Bounded.{◌is◌, ◌below◌, ◌upto◌}
+use lib.Dec.{leb, ltb}
+use lib.ListN.{length, take, drop, length-drop}
+use Rattle.std.specs.Array.{IsFirstChunk}
+use Rattle.std.proofs.lemmas.List.{take_all}
+use Rattle.definitions.specs.Bounded.{◌below◌, ◌upto◌}
 use Rattle.definitions.specs.Slots.{word, slot}
 use Rattle.definitions.specs.Record.{held, held_number, stamp_limit, thread, site, line, binding, subject, flag, type_word, record_of}
 use Rattle.definitions.proofs.Slots.{word_slot}
-use Rattle.state.proofs.Parts.{lent_slot}
+use Rattle.state.proofs.Parts.{lent_slot, first_words}
 
 -- word j of slot i, by the place as the code has it: with j = 0 left out, or not
 module _ (base w : ℕ) where
@@ -34,9 +36,13 @@ site-flag r i = word_at 3 10 r i 1 (3 + 10 * i + 1) (omega arith) (omega arith)
 pub site_type : (r : List ℕ) (i j : ℕ) → j < 8 → word r (3 + 10 * i + (2 + j)) ≡ type_word (site r i) j
 site_type r i j h = word_at 3 10 r i (2 + j) (3 + 10 * i + (2 + j)) (omega arith) (omega arith)
 
--- the record of box b
+-- the record of box b: a part that is lent; the first words of what follows its place
 pub record_part : (st : List ℕ) (b : ℕ) → take (1139 * b + 1139 - 1139 * b) (drop (1139 * b) st) ≡ record_of st b
 record_part st b = lent_slot 0 1139 st b (1139 * b) (omega arith)
+
+pub record_chunk : (st r : List ℕ) (b : ℕ) → IsFirstChunk (take (length st - 1139 * b) (drop (1139 * b) st)) r 1139 → r ≡ record_of st b
+record_chunk st r b k =
+    k.same ∙ ap (take 1139) (take_all (length st - 1139 * b) (drop (1139 * b) st) (simp length-drop (omega arith))) ∙ first_words st b
 
 -- held names
 pub held-is : (n s : ℕ) → 1 + n + 64 * s ≡ held n s
@@ -51,10 +57,6 @@ pub number_of : (v : ℕ) → (v - 1) % 64 ≡ held_number v
 unfolding held_number
 number_of v = refl
 
-pub same-is : (a b : ℕ) → eqb a b ≡ (a is b)
-unfolding ◌is◌
-same-is a b = refl
-
 -- the largest stamp
 pub stamp-upto : (s : ℕ) → leb s stamp_limit ≡ (s upto stamp_limit)
 unfolding ◌upto◌
@@ -64,4 +66,4 @@ pub stamp-below : (s : ℕ) → ltb s stamp_limit ≡ (s below stamp_limit)
 unfolding ◌below◌
 stamp-below s = refl
 
-pub ruleset words = (rules, same-is, stamp-upto, stamp-below, thread-line, thread-binding, site-subject, site-flag, site_type, record_part, held-is, number_of_none, number_of)
+pub ruleset words = (rules, stamp-upto, stamp-below, thread-line, thread-binding, site-subject, site-flag, site_type, record_part, held-is, number_of_none, number_of)

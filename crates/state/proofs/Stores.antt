@@ -1,18 +1,20 @@
 -- The edits of a record: a word that is stored in a slot, words copied, moved down and cleared. Assumes nothing.
-use mathlib.Core.Path.{◌≡◌, refl, ap, subst, sym, ◌∙◌}
-use mathlib.Core.Logic.{◌⊎◌, inl, inr, ◌≢◌}
-use mathlib.Core.List.{List}
+use mathlib.Core.Path.{◌≡◌, ap, sym, ◌∙◌}
+use mathlib.Core.Logic.{◌⊎◌, inl, inr}
+use mathlib.Core.List.{List, ◌++◌}
 use Prim.Native.Nat.{ℕ, ◌+◌, ◌-◌, ◌*◌, ◌/◌, ◌%◌, ◌≤◌, ◌<◌}
 use native.Mathlib.Nat.{mul-le-mul_left}
 use native.Mathlib.Omega.{arith}
-use native.Mathlib.Decide.{ℕ_discrete, dec_lt}
+use native.Mathlib.Decide.{dec_lt}
 use borrow.Author.Rules.{rules}
-use lib.ListN.{length, set, length-set}
-use lib.Seq.{ext_get_or, get_or-set_same, get_or-set_other}
-use Rattle.definitions.specs.Slots.{word, part, put, slot, put_slot, drop_slot, push_slot, take_slot}
+use lib.ListN.{length, take, drop, set, replicate, length-take, length-drop, length-set}
+use Rattle.std.specs.List.{CopiedTo, SameBelow, SameFrom}
+use lib.Seq.{ext_get_or}
+use Rattle.definitions.specs.Slots.{word, zeros, part, put, slot, put_slot, drop_slot, push_slot, take_slot}
 use Rattle.definitions.specs.Record.{threads, thread, site, put_thread, push_thread, take_thread, put_site, goto, bind, set_flag}
-use Rattle.definitions.proofs.Slots.{word-zeros, length_part, length-put, put_is, put-part, set-put, put-put, word_slot, slot_length, slot_put-same, length_drop_slot, word-drop-below, word-drop_above, word-drop-last}
-use Rattle.state.specs.Edits.{Written, cleared, moved_down, copied, DeadThreads}
+use Rattle.definitions.proofs.Slots.{length-zeros, word-put-before, word-put-after, word-put_in, word-zeros, length_part, length-put, put_is, put-part, set-put, put-put, word_slot, slot_length, slot_put-same, length_drop_slot, word-drop-below, word-drop_above, word-drop-last}
+use Rattle.state.specs.Edits.{DeadThreads}
+use Rattle.state.proofs.Parts.{back-part}
 
 -- word j of slot i is stored: the slot is put with that word in it
 module _ (base w cap : ℕ) (r : List ℕ) (fits : base + w * cap ≤ length r) (i : ℕ) (h : i < cap) where
@@ -34,89 +36,14 @@ bind-stored r t n v e h l = set_slot 163 61 16 r (omega arith) t h (1 + n) v (16
 pub flag-stored : (r : List ℕ) (i f : ℕ) → length r ≡ 1139 → i < 16 → set r (3 + 10 * i + 1) f ≡ put_site r i (set_flag (site r i) f)
 flag-stored r i f e h = set_slot 3 10 16 r (omega arith) i h 1 f (3 + 10 * i + 1) (omega arith) (omega arith)
 
--- ---- loops that write the words from one place up to another, ascending: those before i are written
-
-pub record Writing (from to i : ℕ) (f : ℕ → ℕ) (old new : List ℕ) : Type 0 where
-  pub low : from ≤ i
-  pub high : i ≤ to
-  pub inside : to ≤ length old
-  pub done : Written from i f old new
-
-pub writing_start : (from to : ℕ) (f : ℕ → ℕ) (r : List ℕ) → length r ≡ 1139 → from ≤ to → to ≤ 1139 → Writing from to from f r r
-writing_start from to f r size h room = record {
-  low = omega arith;
-  high = h;
-  inside = omega arith;
-  done = record { long = refl; written = λ k a b. absurd (omega arith); kept = λ k _. refl };
-}
-
-pub writing_turn : {from to i : ℕ} {f : ℕ → ℕ} {old new : List ℕ} → Writing from to i f old new → i < to → (v : ℕ) → v ≡ f i
-    → Writing from to (i + 1) f old (set new i v)
-writing_turn {from} {to} {i} {f} {old} {new} w below v e = record {
-  low = omega (arith, w.low);
-  high = omega arith;
-  inside = w.inside;
-  done = record {
-    long = length-set new i v ∙ k.long;
-    written = λ q a b. pick q a b (ℕ_discrete i q);
-    kept = λ q o. get_or-set_other new i q v 0 (out q o) ∙ k.kept q (wider q o);
-  };
-}
-  where
-    k : Written from i f old new
-    k = w.done
-
-    low : from ≤ i
-    low = w.low
-
-    out : (q : ℕ) → (q < from) ⊎ (i + 1 ≤ q) → q ≢ i
-    out q (inl a) = omega (arith, low)
-    out q (inr a) = omega arith
-
-    wider : (q : ℕ) → (q < from) ⊎ (i + 1 ≤ q) → (q < from) ⊎ (i ≤ q)
-    wider q (inl a) = inl a
-    wider q (inr a) = inr (omega arith)
-
-    pick : (q : ℕ) → from ≤ q → q < i + 1 → Dec (i ≡ q) → word (set new i v) q ≡ f q
-    pick q a b (yes z) = rw (← z) (get_or-set_same new i v 0 (omega (arith, k.long, w.inside)) ∙ e)
-    pick q a b (no z) = get_or-set_other new i q v 0 (omega arith) ∙ k.written q a (omega arith)
-
-pub writing_end : {from to i : ℕ} {f : ℕ → ℕ} {old new : List ℕ} → Writing from to i f old new → to ≤ i → Written from to f old new
-writing_end {from} {to} {i} {f} {old} {new} w h =
-    subst (λ (j : ℕ). Written from j f old new) (let z : i ≡ to = omega (arith, w.high) in z) w.done
-
-pub writing_long : {from to i : ℕ} {f : ℕ → ℕ} {old new : List ℕ} → Writing from to i f old new → length new ≡ length old
-writing_long w = w.done.long
-
--- the word that a turn reads is still as it was
-pub moved_turn : {from to i : ℕ} {old new : List ℕ} → Writing from to i (moved_down old) old new → i < to
-    → Writing from to (i + 1) (moved_down old) old (set new i (word new (i + 61)))
-unfolding moved_down
-moved_turn {from} {to} {i} {old} {new} w below = writing_turn w below (word new (i + 61)) (w.done.kept (i + 61) (inr (omega arith)))
-
-pub copied-turn : (from : ℕ) {to i : ℕ} {old new : List ℕ} → Writing to (to + 61) (to + i) (copied from to old) old new → from + 61 ≤ to → i < 61
-    → Writing to (to + 61) (to + (i + 1)) (copied from to old) old (set new (to + i) (word new (from + i)))
-unfolding copied
-copied-turn from {to} {i} {old} {new} w apart h =
-    subst (λ (q : ℕ). Writing to (to + 61) q (λ k. word old (from + (k - to))) old (set new (to + i) (word new (from + i)))) (let z : to + i + 1 ≡ to + (i + 1) = omega arith in z)
-    (writing_turn w (omega arith) (word new (from + i))
-    (w.done.kept (from + i) (inl (omega arith)) ∙ ap (word old) (let z : from + i ≡ from + (to + i - to) = omega arith in z)))
-
-pub cleared-turn : {from to i : ℕ} {old new : List ℕ} → Writing from to i cleared old new → i < to → Writing from to (i + 1) cleared old (set new i 0)
-unfolding cleared
-cleared-turn {from} {to} {i} {old} {new} w below = writing_turn w below 0 refl
-
-pub copied_end : {to i : ℕ} {f : ℕ → ℕ} {old new : List ℕ} → Writing to (to + 61) (to + i) f old new → 61 ≤ i → Written to (to + 61) f old new
-copied_end w h = writing_end w (omega arith)
-
 -- ---- threads
 
 -- the words of a thread are copied behind the last, the line is stored, and the count: the thread is put behind the last
-pub appended : (r s : List ℕ) (t n l : ℕ) → length r ≡ 1139 → t < threads r → threads r < 16 → n ≡ threads r
-    → Written (163 + 61 * n) (163 + 61 * n + 61) (copied (163 + 61 * t) (163 + 61 * n) r) r s
+pub appended : (r s : List ℕ) (t n l w : ℕ) → length r ≡ 1139 → t < threads r → threads r < 16 → n ≡ threads r → w ≡ 61 → length s ≡ length r
+    → CopiedTo r s (163 + 61 * t) (163 + 61 * n) w → SameBelow r s (163 + 61 * n) → SameFrom r s (163 + 61 * n + w)
     → set (set s (163 + 61 * n) l) 1 (n + 1) ≡ push_thread r (goto (thread r t) l)
-unfolding push_slot put_slot copied
-appended r s t n l size live room e k =
+unfolding push_slot put_slot
+appended r s t n l w size live room e wide same copied below from =
     ap (λ (x : List ℕ). set x 1 (n + 1)) (ap (λ (x : List ℕ). set x (163 + 61 * n) l) copy ∙ stored)
     ∙ ap (λ (i : ℕ). set (put r (163 + 61 * i) (goto (thread r t) l)) 1 (i + 1)) e
   where
@@ -131,15 +58,15 @@ appended r s t n l size live room e k =
 
     copy : s ≡ put r (163 + 61 * n) y
     copy =
-        put_is r s (163 + 61 * n) y inside k.long
-        (λ j h. k.written (163 + 61 * n + j) (omega arith) (omega (arith, long))
+        put_is r s (163 + 61 * n) y inside same
+        (λ j h. copied (163 + 61 * n + j) 0 (omega arith) (omega (arith, long))
         ∙ ap (word r) (let z : 163 + 61 * t + (163 + 61 * n + j - (163 + 61 * n)) ≡ 163 + 61 * t + j = omega arith in z)
         ∙ sym (word_slot 163 61 r t j (omega (arith, long))))
-        (λ q o. k.kept q (wide q o))
+        kept
       where
-        wide : (q : ℕ) → (q < 163 + 61 * n) ⊎ (163 + 61 * n + length y ≤ q) → (q < 163 + 61 * n) ⊎ (163 + 61 * n + 61 ≤ q)
-        wide q (inl a) = inl a
-        wide q (inr a) = inr (omega (arith, long))
+        kept : (q : ℕ) → (q < 163 + 61 * n) ⊎ (163 + 61 * n + length y ≤ q) → word s q ≡ word r q
+        kept q (inl a) = below q 0 a
+        kept q (inr a) = from q 0 (omega (arith, long))
 
     s1 : List ℕ
     s1 = put r (163 + 61 * n) y
@@ -163,13 +90,22 @@ dead_word r d k a b =
     let l : threads r ≤ i = omega arith in
     ap (word r) e ∙ sym (word_slot 163 61 r i j (omega arith)) ∙ ap (λ (x : List ℕ). word x j) (d.dead i h l) ∙ word-zeros 61 j
 
+-- 61 words from place a on are cleared
+pub cleared_part : (s x : List ℕ) (a : ℕ) → a + 61 ≤ length s → x ≡ replicate (length (take (a + 61 - a) (drop a s))) 0
+    → take a s ++ (x ++ drop (a + 61 - a) (drop a s)) ≡ put s a (zeros 61)
+unfolding zeros
+cleared_part s x a room e =
+    let n : length (take (a + 61 - a) (drop a s)) ≡ 61 = simp (length-take, length-drop) (omega arith) in
+    let same : x ≡ zeros 61 = e ∙ ap (λ (m : ℕ). replicate m 0) n in
+    back-part s x a (a + 61) (omega arith) (ap length same ∙ length-zeros 61 ∙ omega arith) ∙ ap (put s a) same
+
 -- the later threads are moved down, the last one is cleared, and the count is stored: the thread is taken out
-pub removed : (r s q : List ℕ) (t n : ℕ) → length r ≡ 1139 → DeadThreads r → t < threads r → n ≡ threads r
-    → Written (163 + 61 * t) (163 + 61 * (n - 1)) (moved_down r) r s → Written (163 + 61 * (n - 1)) (163 + 61 * (n - 1) + 61) cleared s q
-    → set q 1 (n - 1) ≡ take_thread r t
-unfolding take_slot moved_down cleared
-removed r s q t n size d live e moved clear =
-    ap (λ (x : List ℕ). set x 1 last) same ∙ ap (λ (v : ℕ). set (drop_slot 163 61 16 r t) 1 (v - 1)) e
+pub removed : (r s : List ℕ) (t n w : ℕ) → length r ≡ 1139 → DeadThreads r → t < threads r → n ≡ threads r → w ≡ 61 * (n - 1 - t) → length s ≡ length r
+    → CopiedTo r s (163 + 61 * t + 61) (163 + 61 * t) w → SameBelow r s (163 + 61 * t) → SameFrom r s (163 + 61 * t + w)
+    → set (put s (163 + 61 * (n - 1)) (zeros 61)) 1 (n - 1) ≡ take_thread r t
+unfolding take_slot
+removed r s t n w size d live e wide same copied below from =
+    ap (λ (x : List ℕ). set x 1 last) cleared ∙ ap (λ (v : ℕ). set (drop_slot 163 61 16 r t) 1 (v - 1)) e
   where
     last : ℕ
     last = n - 1
@@ -186,13 +122,25 @@ removed r s q t n size d live e moved clear =
     dropped : List ℕ
     dropped = drop_slot 163 61 16 r t
 
-    below : (k : ℕ) → k < 163 + 61 * t → word q k ≡ word dropped k
-    below k a =
-        clear.kept k (inl (omega arith)) ∙ moved.kept k (inl a) ∙ sym (word-drop-below 163 61 16 r fits t low k a)
+    q : List ℕ
+    q = put s (163 + 61 * last) (zeros 61)
 
-    above : (k : ℕ) → 163 + 61 * t ≤ k → k < 163 + 61 * last → word q k ≡ word dropped k
-    above k a b =
-        clear.kept k (inl b) ∙ moved.written k a b ∙ sym (word-drop_above 163 61 16 r fits t low k a (omega arith))
+    wide_of : length (zeros 61) ≡ 61
+    wide_of = length-zeros 61
+
+    inside : 163 + 61 * last + length (zeros 61) ≤ length s
+    inside = omega (arith, wide_of)
+
+    before : (k : ℕ) → k < 163 + 61 * last → word q k ≡ word s k
+    before k a = word-put-before s (163 + 61 * last) (zeros 61) inside k a
+
+    at-first : (k : ℕ) → k < 163 + 61 * t → word q k ≡ word dropped k
+    at-first k a = before k (omega arith) ∙ below k 0 a ∙ sym (word-drop-below 163 61 16 r fits t low k a)
+
+    moved : (k : ℕ) → 163 + 61 * t ≤ k → k < 163 + 61 * last → word q k ≡ word dropped k
+    moved k a b =
+        before k b ∙ copied k 0 a (omega arith)
+        ∙ ap (word r) (let z : 163 + 61 * t + 61 + (k - (163 + 61 * t)) ≡ k + 61 = omega arith in z) ∙ sym (word-drop_above 163 61 16 r fits t low k a (omega arith))
 
     behind : (k : ℕ) → 163 + 61 * last ≤ k → k < 1139 → word dropped k ≡ 0
     behind k a b = pick (dec_lt (k + 61) 1139)
@@ -202,21 +150,24 @@ removed r s q t n size d live e moved clear =
         pick (no z) = word-drop-last 163 61 16 r fits t low k (omega arith) (omega arith) b
 
     freed : (k : ℕ) → 163 + 61 * last ≤ k → k < 1139 → Dec (k < 163 + 61 * last + 61) → word q k ≡ 0
-    freed k a b (yes z) = clear.written k a z
+    freed k a b (yes z) =
+        let j = k - (163 + 61 * last) in
+        ap (word q) (let p : k ≡ 163 + 61 * last + j = omega arith in p)
+        ∙ word-put_in s (163 + 61 * last) (zeros 61) inside j (omega (arith, wide_of)) ∙ word-zeros 61 j
     freed k a b (no z) =
-        clear.kept k (inr (omega arith)) ∙ moved.kept k (inr a) ∙ dead_word r d k (omega arith) b
+        word-put-after s (163 + 61 * last) (zeros 61) inside k (omega (arith, wide_of)) ∙ from k 0 (omega arith) ∙ dead_word r d k (omega arith) b
 
     at : (k : ℕ) → k < 1139 → Dec (k < 163 + 61 * t) → Dec (k < 163 + 61 * last) → word q k ≡ word dropped k
-    at k h (yes a) b = below k a
-    at k h (no a) (yes b) = above k (omega arith) b
+    at k h (yes a) b = at-first k a
+    at k h (no a) (yes b) = moved k (omega arith) b
     at k h (no a) (no b) = freed k (omega arith) h (dec_lt k (163 + 61 * last + 61)) ∙ sym (behind k (omega arith) h)
 
     long : length q ≡ length r
-    long = clear.long ∙ moved.long
+    long = length-put s (163 + 61 * last) (zeros 61) inside ∙ same
 
-    same : q ≡ dropped
-    same =
+    cleared : q ≡ dropped
+    cleared =
         ext_get_or 0 q dropped (long ∙ sym (length_drop_slot 163 61 16 r fits t low))
         (λ k h. at k (omega (arith, long)) (dec_lt k (163 + 61 * t)) (dec_lt k (163 + 61 * last)))
 
-pub ruleset stores = (rules, goto-stored, bind-stored, flag-stored, writing_start, writing_turn, writing_end, writing_long, cleared-turn, moved_turn, copied-turn, copied_end, appended, removed)
+pub ruleset stores = (rules, goto-stored, bind-stored, flag-stored)

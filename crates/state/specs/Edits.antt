@@ -1,25 +1,9 @@
--- What the loops over the words of a record leave. Assumes nothing.
-use Rattle.std.specs.Prelude.{◌≡◌, ◌⊎◌, true, false, List, [], ◌∷◌, ℕ, ◌+◌, ◌-◌, ◌≤◌, ◌<◌, length}
+-- Threads of a record that are not in use, and a held name put into the words of a type. Assumes nothing.
+use Rattle.std.specs.Prelude.{◌≡◌, true, false, List, [], ◌∷◌, ℕ, ◌≤◌, ◌<◌}
 use Rattle.definitions.specs.Bounded.{◌is◌, ◌below◌}
 use Rattle.definitions.specs.Limits.{slot_limit}
-use Rattle.definitions.specs.Slots.{word, zeros}
+use Rattle.definitions.specs.Slots.{zeros}
 use Rattle.definitions.specs.Record.{thread_width, threads, thread}
-
--- each word from one place up to another is that of f, and all else is as it was
-pub record Written (from to : ℕ) (f : ℕ → ℕ) (old new : List ℕ) : Type 0 where
-  pub long : length new ≡ length old
-  pub written : (k : ℕ) → from ≤ k → k < to → word new k ≡ f k
-  pub kept : (k : ℕ) → (k < from) ⊎ (to ≤ k) → word new k ≡ word old k
-
--- what is written at place k: zero; the word a thread's width on; the word of a copy that goes from one place to another
-unfoldable pub cleared : ℕ → ℕ
-cleared k = 0
-
-unfoldable pub moved_down : List ℕ → ℕ → ℕ
-moved_down r k = word r (k + thread_width)
-
-unfoldable pub copied : ℕ → ℕ → List ℕ → ℕ → ℕ
-copied from to r k = word r (from + (k - to))
 
 -- the threads past the last are zero
 pub record DeadThreads (r : List ℕ) : Type 0 where

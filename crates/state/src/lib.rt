@@ -1,16 +1,18 @@
-#![tactic(auto)]
-// Held names, and the box records of a state: their words, read where they stand. Each call requires the words that it reads.
-ghost use Rattle.std.specs.Prelude.{◌≡◌, ◌+◌, ◌*◌, ◌<◌, ◌≤◌, length};
-ghost use Rattle.definitions.specs.Bounded.{◌is◌, ◌below◌, ◌upto◌};
+#![tactic(auto, using(crate::proofs::Records::words))]
+// Held names, and the box records of a state: their words, read where they stand. A box record is an array of its 1,139 words.
+ghost use Rattle.std.specs.Prelude.{◌≡◌, ◌+◌, ◌*◌, ◌<◌, ◌≤◌, ◌++◌, length, take, drop};
+ghost use Rattle.std.specs.Borrow.{sem, Lends, Array, u32};
+ghost use Rattle.definitions.specs.Bounded.{◌below◌, ◌upto◌};
 ghost use Rattle.definitions.specs.Limits.{name_limit, slot_limit, type_limit};
 ghost use Rattle.definitions.specs.Record as records;
 
 use sets::NameNo;
 
 pub mod edits;
+pub mod kinds;
 
 // The paper's "held name": a name's number with a stamp, and 0 for none. A name's number is another type.
-#[derive(Clone, Copy)]
+#[derive(Clone, Copy, Debug, PartialEq, Eq)]
 pub struct Held(pub u32);
 
 // The largest stamp.
@@ -32,100 +34,94 @@ pub fn stamp_left(s: u32) -> bool
 
 // Name n, with a stamp.
 pub fn stamped(n: NameNo, stamp: u32) -> Held
-    requires { (n.0 < name_limit) × (stamp ≤ records.stamp_limit) }
+    requires listed { n.0 < name_limit }
+    requires in_range { stamp ≤ records.stamp_limit }
     ensures { result.0 ≡ records.held n.0 stamp }
 {
-    Held(1 + n.0 as u32 + 64 * stamp)
+    Held(1 + u32::from(n.0) + 64 * stamp)
 }
 
 // The number of a held name.
 pub fn number(h: Held) -> NameNo
     ensures { result.0 ≡ records.held_number h.0 }
 {
-    if h.0 == 0 {
-        NameNo(0)
-    } else {
-        NameNo(((h.0 - 1) % 64) as u8)
-    }
-}
-
-// Two held names are the same: number and stamp.
-pub fn same(a: Held, b: Held) -> bool
-    ensures { result ≡ (a.0 is b.0) }
-{
-    a.0 == b.0
-}
-
-fn wide(w: u32) -> usize
-    ensures { result ≡ w }
-{
-    w as usize
+    NameNo((h.0.saturating_sub(1) % 64) as u8)
 }
 
 // The record of box b.
-pub fn record(state: &[u32], b: usize) -> &[u32]
+pub fn record(state: &[u32], b: usize) -> &[u32; 1139]
     requires { records.record_length * (b + 1) ≤ length state.now }
     ensures { result.now ≡ records.record_of state.now b }
 {
-    let from = 1139 * b;
-    let to = from + 1139;
-    &state[from..to]
+    state[1139 * b..].first_chunk::<1139>().unwrap()
 }
 
-pub fn stamp(r: &[u32]) -> u32
-    requires { length r.now ≡ records.record_length }
+// The record with which the words of a part of a state begin. A caller splits the state before its box: what is lent is followed to a
+// whole slice, and not to a part of it that the call itself takes, nor through `unwrap`.
+pub fn first_record(words: &mut [u32]) -> &mut [u32; 1139]
+    requires { records.record_length ≤ length words.old }
+    ensures* writes_back { sem 𝓛 (Lends (Array u32 0) (Array u32 0) words.entry result (λ ws. ws ++ drop records.record_length words.old)) }
+    ensures value { result.now ≡ take records.record_length words.old }
+{
+    let Some(r) = words.first_chunk_mut::<1139>() else {
+        unreachable!()
+    };
+    r
+}
+
+pub fn stamp(r: &[u32; 1139]) -> u32
     ensures { result ≡ records.stamp r.now }
 {
     r[0]
 }
 
-pub fn threads(r: &[u32]) -> usize
-    requires { length r.now ≡ records.record_length }
+pub fn threads(r: &[u32; 1139]) -> usize
     ensures { result ≡ records.threads r.now }
 {
-    wide(r[1])
+    r[1] as usize
 }
 
-pub fn sites(r: &[u32]) -> usize
-    requires { length r.now ≡ records.record_length }
+pub fn sites(r: &[u32; 1139]) -> usize
     ensures { result ≡ records.sites r.now }
 {
-    wide(r[2])
+    r[2] as usize
 }
 
 // The line at which thread t stands.
-pub fn line(r: &[u32], t: usize) -> usize
-    requires { (length r.now ≡ records.record_length) × (t < slot_limit) }
+pub fn line(r: &[u32; 1139], t: usize) -> usize
+    requires { t < slot_limit }
     ensures { result ≡ records.line (records.thread r.now t) }
 {
-    wide(r[163 + 61 * t])
+    r[163 + 61 * t] as usize
 }
 
 // What name n is bound to in thread t.
-pub fn binding(r: &[u32], t: usize, n: NameNo) -> Held
-    requires { (length r.now ≡ records.record_length) × (t < slot_limit) × (n.0 < name_limit) }
+pub fn binding(r: &[u32; 1139], t: usize, n: NameNo) -> Held
+    requires slot { t < slot_limit }
+    requires listed { n.0 < name_limit }
     ensures { result.0 ≡ records.binding (records.thread r.now t) n.0 }
 {
-    Held(r[163 + 61 * t + (1 + n.0 as usize)])
+    Held(r[163 + 61 * t + (1 + usize::from(n.0))])
 }
 
 // Site i: its subject, 0 shown or 1 hidden, and word j of its type.
-pub fn subject(r: &[u32], i: usize) -> Held
-    requires { (length r.now ≡ records.record_length) × (i < slot_limit) }
+pub fn subject(r: &[u32; 1139], i: usize) -> Held
+    requires { i < slot_limit }
     ensures { result.0 ≡ records.subject (records.site r.now i) }
 {
     Held(r[3 + 10 * i])
 }
 
-pub fn flag(r: &[u32], i: usize) -> u32
-    requires { (length r.now ≡ records.record_length) × (i < slot_limit) }
+pub fn flag(r: &[u32; 1139], i: usize) -> u32
+    requires { i < slot_limit }
     ensures { result ≡ records.flag (records.site r.now i) }
 {
     r[3 + 10 * i + 1]
 }
 
-pub fn type_word(r: &[u32], i: usize, j: usize) -> Held
-    requires { (length r.now ≡ records.record_length) × (i < slot_limit) × (j < type_limit) }
+pub fn type_word(r: &[u32; 1139], i: usize, j: usize) -> Held
+    requires slot { i < slot_limit }
+    requires place { j < type_limit }
     ensures { result.0 ≡ records.type_word (records.site r.now i) j }
 {
     Held(r[3 + 10 * i + (2 + j)])

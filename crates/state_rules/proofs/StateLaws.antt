@@ -6,11 +6,8 @@ use mathlib.Core.Option.{none}
 use Prim.Native.Nat.{ℕ, ◌+◌, ◌-◌, ◌*◌, ◌≤◌, ◌<◌}
 use native.Mathlib.Nat.{le_refl}
 use native.Mathlib.Omega.{arith}
-use borrow.Author.Rules.{rules}
 use lib.Dec.{T}
 use lib.ListN.{length, get_or}
-use mir.Syntax.{w64}
-use mir.Val.{Fits}
 use Rattle.definitions.specs.Bounded.{◌and◌, ◌or◌, ◌is◌, ◌below◌, all_below}
 use Rattle.definitions.specs.Sets.{has}
 use Rattle.definitions.specs.Slots.{word}
@@ -34,9 +31,9 @@ use Rattle.box_reach.proofs.ReachLaws.{bound_above_lem, handed-bound}
 use Rattle.layouts.specs.declared.Layout.{Layout}
 use Rattle.layouts.specs.LayoutOf.{LayoutOf}
 use Rattle.model.proofs.Models.{unrefused_room, unrefused_lines}
+use Rattle.held_limits.specs.declared.Limits.{Limits}
 use Rattle.held_limits.specs.Limits.{LimitsOf, last_fits, StampsFit, LimitsFor}
 use Rattle.box_records.specs.Rules.{clear_between, SubjectsOf, AboveEach, StandBelow, NamesAbove, DecidesRecord}
-use Rattle.held_limits.proofs.LimitLaws.{record_long}
 use Rattle.box_records.proofs.WordLaws.{between_iff, slots_each}
 use Rattle.state_rules.specs.Records.{record_fits_at}
 
@@ -64,9 +61,6 @@ module _ (image : List ℕ) (l : Layout) (e : read_model image ≡ none) (h : La
   module _ (b : ℕ) (q : b < l.boxes) where
     pub box_room : b < 8
     box_room = unrefused_room image l e h b q
-
-    pub box_scale : Fits w64 (b * 8)
-    box_scale = omega (arith, box_room)
 
     at_box_lem : LinesAt image b (get_or l.at b 0) (get_or l.lines b 0)
     at_box_lem = unrefused_lines image l e h b q
@@ -109,20 +103,17 @@ module _ (image : List ℕ) (l : Layout) (e : read_model image ≡ none) (h : La
 
 -- ---- the records of the model's boxes
 
-pub record_room : (st : List ℕ) (boxes b : ℕ) → StampsFit st boxes → b < boxes → 1139 * (b + 1) ≤ length st
-record_room st boxes b f h = omega (arith, f.long, f.most)
-
 module _ (st : List ℕ) (b : ℕ) (r : List ℕ) (z : r ≡ record_of st b) where
   pub record_stamp : (boxes : ℕ) → StampsFit st boxes → b < boxes → stamp r ≤ stamp_limit
   unfolding last_fits last_stamps
   record_stamp boxes f h = subst (λ (x : List ℕ). stamp x ≤ stamp_limit) (sym z) ((upto_iff (stamp (record_of st b)) stamp_limit).0 ((all_iff boxes (last_fits st)).0 (of_true f.stamps) b h))
 
-  pub record_is : (image : List ℕ) (l : Layout) (low high up : List ℕ) (c s : ℕ) (t : Bool) → read_model image ≡ none → LayoutOf image l → b < l.boxes
-      → LimitsOf (model_of image) (last_stamps st) low high → ((n : ℕ) → has s n ≡ (has l.free n or has l.exposed n))
-      → StandBelow r (get_or l.lines b 0) 16 c → HandedDownEach image (get_or l.at b 0) c up → DecidesRecord low high up (get_or l.lines b 0) s r t
+  pub record_is : (image : List ℕ) (l : Layout) (limits : Limits) (up : List ℕ) (c s : ℕ) (t : Bool) → read_model image ≡ none → LayoutOf image l → b < l.boxes
+      → LimitsOf (model_of image) (last_stamps st) limits → ((n : ℕ) → has s n ≡ (has l.free n or has l.exposed n))
+      → StandBelow r (get_or l.lines b 0) 16 c → HandedDownEach image (get_or l.at b 0) c up → DecidesRecord limits up (get_or l.lines b 0) s r t
       → t ≡ record_fits_at (model_of image) st b
   unfolding record_fits_at
-  record_is image l low high up c s t e h q k f u d w =
+  record_is image l limits up c s t e h q k f u d w =
       w.decides (model_of image) (last_stamps st) (box_at (model_of image) b) k (above_each image l e h b q r up c u d) (subjects_of image l e h s f)
       ∙ ap (record_fits (model_of image) (last_stamps st) (box_at (model_of image) b)) z
 
@@ -133,9 +124,6 @@ pub record ClearTo (st : List ℕ) (boxes b : ℕ) : Type 0 where
   pub reached : boxes ≤ b
   pub most : b ≤ 8
   pub each : (j : ℕ) → j < 1139 * b → 1139 * boxes ≤ j → word st j ≡ 0
-
-pub missing-room : (st : List ℕ) (b : ℕ) → length st ≡ 9112 → b < 8 → 1139 * (b + 1) ≤ length st
-missing-room st b long h = omega arith
 
 module _ (st : List ℕ) (boxes : ℕ) where
   pub missing-start : boxes ≤ 8 → ClearTo st boxes boxes
@@ -148,9 +136,6 @@ module _ (st : List ℕ) (boxes : ℕ) where
   module _ (b : ℕ) (k : ClearTo st boxes b) (r : List ℕ) (e : r ≡ record_of st b) where
     word_in : (i : ℕ) → i < 1139 → word r i ≡ word st (0 + 1139 * b + i)
     word_in i h = ap (λ (x : List ℕ). word x i) e ∙ word_slot 0 1139 st b i h
-
-    pub record_fills : length st ≡ 9112 → b < 8 → 1139 ≤ length r
-    record_fills long h = omega (arith, record_long st r b e long h)
 
     module _ (t : Bool) (q : t ≡ clear_between r 0 1139) (h : b < 8) where
       pub missing_stop : t ≡ false → false ≡ clear_between st (1139 * boxes) 9112
@@ -210,7 +195,7 @@ pub stamps_fit : (image : List ℕ) (l : Layout) (st : List ℕ) (t : Bool) → 
     → t ≡ all_below l.boxes (last_fits st) → t ≡ true → StampsFit st l.boxes
 stamps_fit image l st t e h long q z = record { long = long; most = few_boxes image l e h; stamps = sym q ∙ z }
 
-pub limits_of : (image : List ℕ) (l : Layout) (st low high : List ℕ) → LimitsFor l st low high → LayoutOf image l → LimitsOf (model_of image) (last_stamps st) low high
-limits_of image l st low high k h = k.limits image h
+pub limits_of : (image : List ℕ) (l : Layout) (st : List ℕ) (limits : Limits) → LimitsFor l st limits → LayoutOf image l → LimitsOf (model_of image) (last_stamps st) limits
+limits_of image l st limits k h = k.are image h
 
-pub ruleset state-rules = (rules, missing-room, missing-start, missing_end, record_fills, missing_stop, missing-turn, fails, holds, few_boxes, few_names, stamps_fit, box_room, box_scale, used_lines, names_above, record_room, record_long, record_stamp, record_is, passing_start, passing_turn, passing_stop, passing_end, state_length_lem, state_stamps, state_misfit, state_clear, limits_of)
+pub ruleset state_rules = (missing-start, missing_end, missing_stop, missing-turn, few_boxes, few_names, stamps_fit, box_room, used_lines, names_above, record_stamp, record_is, passing_start, passing_turn, passing_stop, passing_end, state_length_lem, state_stamps, state_misfit, state_clear, limits_of)

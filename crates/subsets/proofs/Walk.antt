@@ -7,17 +7,13 @@ use mathlib.Core.Option.{Option, none, some}
 use Prim.Native.Nat.{ℕ, ◌^◌, ◌<◌}
 use native.Mathlib.Omega.{arith}
 use native.Mathlib.Decide.{ℕ_discrete}
-use Rattle.definitions.specs.Bounded.{◌and◌, ◌isnt◌, when, first_below}
+use Rattle.definitions.specs.Bounded.{◌and◌, ◌isnt◌, when}
 use Rattle.definitions.specs.Sets.{has, first_short}
 use Rattle.definitions.proofs.Bounded.{isnt_iff, true_of, not-false, each_none, first_stop, first_cong}
 use Rattle.definitions.proofs.Sets.{and-true, has-none, low_clear, short_iff}
-use Rattle.definitions.proofs.Loops.{Passed, answer_none, answer_stop}
-use Rattle.sets.specs.declared.NameNo.{NameNo}
 use Rattle.sets.specs.Lowest.{lowest_of, WithoutLowest}
+use Rattle.sets.specs.Ascending.{LowestOf}
 use Rattle.sets.proofs.Walk.{Left, left_start, left_turn, lowest-word, lowest_in, lowest-below}
-use Rattle.subsets.specs.declared.Within.{Within}
-use Rattle.subsets.specs.declared.Within.TheVariants.{Yes, Lacks}
-use Rattle.subsets.specs.Within.{within_in}
 
 when-none : (b : Bool) → when {A = ℕ} b none ≡ none
 when-none true = refl
@@ -54,27 +50,22 @@ pub record ShortLeft (f : ℕ → Option ℕ) (s left : ℕ) : Type 0 where
   pub there : Left s left
   pub same : first_short left f ≡ first_short s f
 
+not_zero : (n : ℕ) → 0 < n → n ≡ 0 → ⊥
+not_zero n h e = omega arith
+
 module _ (f : ℕ → Option ℕ) (s : ℕ) where
   pub short_start : s < 2 ^ 64 → ShortLeft f s s
   short_start h = record { there = left_start s h; same = refl }
 
-  pub short_end : (left : ℕ) → ShortLeft f s left → left ≡ 0 → none ≡ first_short s f
-  short_end left w z = sym (none_short f left z) ∙ w.same
+  pub short_end : (left : ℕ) → ShortLeft f s left → left ≡ 0 → first_short s f ≡ none
+  short_end left w z = sym w.same ∙ none_short f left z
 
-  module _ (left n : ℕ) (r : Within) (w : ShortLeft f s left) (z : left ≡ 0 → ⊥) (e : n ≡ lowest_of left) (is : within_in r ≡ f n) where
-    pub short_stop : (m : NameNo) → r ≡ Lacks m → within_in r ≡ first_short s f
-    short_stop m q =
-        ap within_in q ∙ sym (short_first f left n w.there.fit z e m.0 (sym is ∙ ap within_in q)) ∙ w.same
+  module _ (left n t : ℕ) (w : ShortLeft f s left) (d : LowestOf left n t) where
+    pub short_stop : (m : ℕ) → f n ≡ some m → first_short s f ≡ some m
+    short_stop m q = sym w.same ∙ short_first f left n w.there.fit (not_zero left d.some_left) d.lowest m q
 
-    pub short_turn : (t : ℕ) → WithoutLowest left t → r ≡ Yes → ShortLeft f s t
-    short_turn t d q = record {
-      there = left_turn s left t w.there z d;
-      same = sym (short_rest f left n w.there.fit z e t d (sym is ∙ ap within_in q)) ∙ w.same;
+    pub short_turn : f n ≡ none → ShortLeft f s t
+    short_turn q = record {
+      there = left_turn s left t w.there (not_zero left d.some_left) d.others;
+      same = sym (short_rest f left n w.there.fit (not_zero left d.some_left) d.lowest t d.others q) ∙ w.same;
     }
-
--- one after another
-pub yes_none : (r : Within) (x : Option ℕ) → within_in r ≡ x → r ≡ Yes → none ≡ x
-yes_none r x e q = answer_none within_in r Yes refl x e q
-
-pub lacks_of : (r : Within) (n : ℕ) (g : ℕ → Option ℕ) (i : ℕ) (m : NameNo) → Passed n g i → i < n → within_in r ≡ g i → r ≡ Lacks m → within_in r ≡ first_below n g
-lacks_of r n g i m p l e q = answer_stop within_in r (Lacks m) m.0 refl n g i p l e q

@@ -9,9 +9,7 @@ fn one<R: Files + Print + Eprint>(rt: &R, digit: u8) {
 }
 
 fn main(rt: HostRuntime) {
-    let mut i: u8 = 0;
-    while i < 10 {
-        one(&rt, 48 + i);
-        i += 1;
+    for digit in b"0123456789" {
+        one(&rt, *digit);
     }
 }

@@ -2,12 +2,11 @@
 // Makes lists of moves, each from a start, and writes a line for each move: its five numbers and its answer, then for each box its number,
 // its last stamp and its threads, each with its line and what it has bound; then the same for one run over the list, from a second start.
 // The lists for model K are those of the examples. The model limits.blk has one box, !new n.0: 16 threads and a copy; the last two stamps.
-ghost use Rattle.std.specs.Prelude.{◌≡◌, ◌+◌, ◌*◌, ◌<◌, ◌≤◌, length};
+ghost use Rattle.std.specs.Prelude.{◌<◌};
 ghost use Rattle.definitions.specs.Limits.{slot_limit};
-ghost use Rattle.definitions.specs.Record.{record_length};
 
 use programs::{end_line, number, write};
-use refusals::Answer;
+use refusals::Refusal;
 use sets::NameNo;
 use state::Held;
 use std::rt::Files;
@@ -27,36 +26,25 @@ fn show_word<R: Print>(rt: &R, word: u32) {
 }
 
 // Thread t of a box record.
-fn show_thread<R: Print>(rt: &R, r: &[u32], t: usize)
-    requires { (length r.now ≡ record_length) × (t < slot_limit) }
+fn show_thread<R: Print>(rt: &R, r: &[u32; 1139], t: usize)
+    requires { t < slot_limit }
 {
     write(rt, b" line");
     number(rt, state::line(r, t) as u64);
-    let mut n = 0;
-    while n < 60 {
+    for n in 0..60 {
         let name = NameNo(n);
         show_bound(rt, name, state::binding(r, t, name));
-        n += 1;
     }
 }
 
 // The threads of a box record.
-fn show_threads<R: Print>(rt: &R, r: &[u32])
-    requires { length r.now ≡ record_length }
-{
-    let count = state::threads(r);
-    let mut t = 0;
-    while t < 16 {
-        if t < count {
-            show_thread(rt, r, t);
-        }
-        t += 1;
+fn show_threads<R: Print>(rt: &R, r: &[u32; 1139]) {
+    for t in 0..state::threads(r).min(16) {
+        show_thread(rt, r, t);
     }
 }
 
-fn show_box<R: Print>(rt: &R, b: usize, r: &[u32])
-    requires { length r.now ≡ record_length }
-{
+fn show_box<R: Print>(rt: &R, b: usize, r: &[u32; 1139]) {
     write(rt, b" box");
     number(rt, b as u64);
     show_word(rt, state::stamp(r));
@@ -65,15 +53,8 @@ fn show_box<R: Print>(rt: &R, b: usize, r: &[u32])
 
 // The first boxes of a state, and the end of the line.
 fn show_boxes<R: Print>(rt: &R, state: &[u32], boxes: usize) {
-    let mut b = 0;
-    while b < boxes {
-        let from = 1139 * b;
-        let to = from + 1139;
-        if to > state.len() {
-            break;
-        }
-        show_box(rt, b, &state[from..to]);
-        b += 1;
+    for b in 0..boxes.min(state.len() / 1139) {
+        show_box(rt, b, state::record(state, b));
     }
     end_line(rt);
 }
@@ -83,11 +64,11 @@ fn show_byte<R: Print>(rt: &R, byte: u8) {
 }
 
 // A call's answer: 0, or the refusal's number.
-fn show_answer<R: Print>(rt: &R, answer: Answer) {
+fn show_answer<R: Print>(rt: &R, answer: Result<(), Refusal>) {
     write(rt, b" answer");
     match answer {
-        Answer::NoRefusal => number(rt, 0),
-        Answer::Refused(x) => number(rt, x.number as u64),
+        Ok(()) => number(rt, 0),
+        Err(x) => number(rt, x.number as u64),
     }
 }
 
@@ -102,7 +83,7 @@ fn step<R: Print>(
     c: u32,
     u: u32,
 ) {
-    let answer = reduction::step(image, &mut *state, kind, b, t, c, u);
+    let answer = reduction::step(image, state, kind, b, t, c, u);
     write(rt, b"move");
     show_word(rt, kind);
     show_word(rt, b);
@@ -110,36 +91,25 @@ fn step<R: Print>(
     show_word(rt, c);
     show_word(rt, u);
     show_answer(rt, answer);
-    show_boxes(rt, &*state, boxes);
+    show_boxes(rt, state, boxes);
 }
 
 // Each move of a list of numbers, five a move, by a step call of its own.
 fn steps<R: Print>(rt: &R, image: &[u8], boxes: usize, state: &mut [u32], numbers: &[u32]) {
-    let mut k = 0;
-    while k < numbers.len() / 5 {
-        let from = 5 * k;
-        let to = from + 5;
-        let m = &numbers[from..to];
-        step(rt, image, boxes, &mut *state, m[0], m[1], m[2], m[3], m[4]);
-        k += 1;
+    for m in numbers.as_chunks::<5>().0 {
+        step(rt, image, boxes, state, m[0], m[1], m[2], m[3], m[4]);
     }
-}
-
-// A word is stored where there is a place for it.
-fn put(words: &mut [u32], k: usize, word: u32) {
-    if k >= words.len() {
-        return;
-    }
-    words[k] = word;
 }
 
 // A start, after which box 0 gets that last stamp.
 fn begin<R: Print>(rt: &R, image: &[u8], boxes: usize, state: &mut [u32], stamp: u32) {
-    let answer = start::start(image, &mut *state);
-    put(&mut *state, 0, stamp);
+    let answer = start::start(image, state);
+    if let Some(first) = state.first_mut() {
+        *first = stamp;
+    }
     write(rt, b"start");
     show_answer(rt, answer);
-    show_boxes(rt, &*state, boxes);
+    show_boxes(rt, state, boxes);
 }
 
 // The answers of one run over the list.
@@ -151,31 +121,24 @@ fn whole<R: Print>(
     numbers: &[u32],
     answers: &mut [u8],
 ) {
-    let answer = runs::run_numbers(image, &mut *state, numbers, &mut *answers);
+    let answer = runs::run_numbers(image, state, numbers, answers);
     write(rt, b"run");
     show_answer(rt, answer);
     write(rt, b" answers");
-    let mut i = 0;
-    while i < answers.len() {
-        show_byte(rt, answers[i]);
-        i += 1;
+    for answer in &*answers {
+        show_byte(rt, *answer);
     }
-    show_boxes(rt, &*state, boxes);
+    show_boxes(rt, state, boxes);
 }
 
 fn digit(text: u8) -> u32 {
-    if text < b'0' {
-        return 0;
-    }
-    (text - b'0') as u32
+    u32::from(text.saturating_sub(b'0'))
 }
 
 // The numbers of a list of moves: one digit each, with a space or a line end after each.
 fn read_numbers(text: &[u8], numbers: &mut [u32]) {
-    let mut k = 0;
-    while k < text.len() / 2 {
-        put(&mut *numbers, k, digit(text[2 * k]));
-        k += 1;
+    for (place, pair) in numbers.iter_mut().zip(text.as_chunks::<2>().0) {
+        *place = digit(pair[0]);
     }
 }
 
@@ -188,13 +151,11 @@ fn play<R: Print>(
     numbers: &[u32],
     answers: &mut [u8],
 ) {
-    let read = model::read(image);
-    let layout = read.layout;
-    let boxes = layout.boxes;
-    begin(rt, image, boxes, &mut *state, stamp);
-    steps(rt, image, boxes, &mut *state, numbers);
-    begin(rt, image, boxes, &mut *state, stamp);
-    whole(rt, image, boxes, &mut *state, numbers, &mut *answers);
+    let boxes = model::read(image).map_or(0, |l| l.boxes);
+    begin(rt, image, boxes, state, stamp);
+    steps(rt, image, boxes, state, numbers);
+    begin(rt, image, boxes, state, stamp);
+    whole(rt, image, boxes, state, numbers, answers);
 }
 
 // A list of at most 32 moves, ten bytes each.

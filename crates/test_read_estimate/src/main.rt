@@ -4,7 +4,6 @@
 ghost use Rattle.std.specs.Prelude.{◌+◌, ◌*◌, ◌<◌, ◌≤◌, length};
 
 use programs::{end_line, number, set, write};
-use refusals::Answer;
 use sets::NameNo;
 use std::rt::Files;
 
@@ -15,45 +14,46 @@ fn last_set<R: Print>(rt: &R, s: u64) {
 }
 
 fn rhos<R: Print>(rt: &R, image: &[u8], names: u8)
-    requires { (512 ≤ length image.now) × (names ≤ 60) }
+    requires there { 512 ≤ length image.now }
+    requires few { names ≤ 60 }
 {
-    let mut n: u8 = 0;
-    while n < names {
+    for n in 0..names {
         write(rt, b"rho");
         number(rt, n as u64);
         last_set(rt, estimate::rho(image, NameNo(n)));
-        n += 1;
     }
 }
 
 fn epss<R: Print>(rt: &R, image: &[u8], names: u8, b: usize)
-    requires { (512 * (3 + 2 * b) ≤ length image.now) × (names ≤ 60) × (b < 8) }
+    requires there { 512 * (3 + 2 * b) ≤ length image.now }
+    requires few { names ≤ 60 }
+    requires listed { b < 8 }
 {
-    let mut n: u8 = 0;
-    while n < names {
+    for n in 0..names {
         write(rt, b"eps");
         number(rt, b as u64);
         number(rt, n as u64);
         last_set(rt, estimate::eps(image, b, NameNo(n)));
-        n += 1;
     }
 }
 
 fn kaps<R: Print>(rt: &R, image: &[u8], names: u8, b: usize)
-    requires { (512 * (3 + 2 * b) ≤ length image.now) × (names ≤ 60) × (b < 8) }
+    requires there { 512 * (3 + 2 * b) ≤ length image.now }
+    requires few { names ≤ 60 }
+    requires listed { b < 8 }
 {
-    let mut n: u8 = 0;
-    while n < names {
+    for n in 0..names {
         write(rt, b"kap");
         number(rt, b as u64);
         number(rt, n as u64);
         last_set(rt, estimate::kap(image, b, NameNo(n)));
-        n += 1;
     }
 }
 
 fn one_box<R: Print>(rt: &R, image: &[u8], names: u8, b: usize)
-    requires { (512 * (3 + 2 * b) ≤ length image.now) × (names ≤ 60) × (b < 8) }
+    requires there { 512 * (3 + 2 * b) ≤ length image.now }
+    requires few { names ≤ 60 }
+    requires listed { b < 8 }
 {
     write(rt, b"shown");
     number(rt, b as u64);
@@ -66,13 +66,13 @@ fn one_box<R: Print>(rt: &R, image: &[u8], names: u8, b: usize)
 }
 
 fn all<R: Print>(rt: &R, image: &[u8], names: u8, boxes: usize)
-    requires { (512 * (1 + 2 * boxes) ≤ length image.now) × (names ≤ 60) × (boxes ≤ 8) }
+    requires there { 512 * (1 + 2 * boxes) ≤ length image.now }
+    requires few { names ≤ 60 }
+    requires boxes { boxes ≤ 8 }
 {
     rhos(rt, image, names);
-    let mut b = 0;
-    while b < boxes {
+    for b in 0..boxes {
         one_box(rt, image, names, b);
-        b += 1;
     }
 }
 
@@ -86,26 +86,19 @@ fn refused<R: Print>(rt: &R, image: &[u8], number_of: u8, place: usize, second: 
 
 fn show<R: Print>(rt: &R, image: &[u8], names: usize, boxes: usize) {
     match estimate::read(image, names, boxes) {
-        Answer::NoRefusal => {
-            if names <= 60 {
-                if boxes <= 8 {
-                    if 512 * (1 + 2 * boxes) <= image.len() {
-                        all(rt, image, names as u8, boxes);
-                    }
-                }
+        Ok(()) => {
+            if names <= 60 && boxes <= 8 && 512 * (1 + 2 * boxes) <= image.len() {
+                all(rt, image, names as u8, boxes);
             }
         }
-        Answer::Refused(r) => refused(rt, b"refused estimate", r.number, r.place, 0),
+        Err(r) => refused(rt, b"refused estimate", r.number, r.place, 0),
     }
 }
 
 fn pair<R: Print>(rt: &R, model: &[u8], image: &[u8]) {
-    let read = model::read(model);
-    let layout = read.layout;
-    let answer = read.answer;
-    match answer {
-        Answer::NoRefusal => show(rt, image, layout.names, layout.boxes),
-        Answer::Refused(r) => refused(rt, b"refused model", r.number, r.place, r.second),
+    match model::read(model) {
+        Ok(l) => show(rt, image, l.names, l.boxes),
+        Err(r) => refused(rt, b"refused model", r.number, r.place, r.second),
     }
 }
 
@@ -120,9 +113,7 @@ fn one<R: Files + Print>(rt: &R, digit: u8) {
 }
 
 fn main(rt: HostRuntime) {
-    let mut i: u8 = 0;
-    while i < 6 {
-        one(&rt, 48 + i);
-        i += 1;
+    for digit in b"012345" {
+        one(&rt, *digit);
     }
 }

@@ -4,12 +4,11 @@ ghost use Rattle.std.specs.Prelude.{◌≡◌, ◌<◌};
 ghost use Rattle.std.proofs.Math.Option.{none};
 ghost use Rattle.definitions.specs.ReadModel.{read_model};
 ghost use Rattle.records.specs.Places.{LinesAt, SitesAt};
-ghost use Rattle.model.specs.LayoutOf.{LayoutOf};
+ghost use Rattle.layouts.specs.LayoutOf.{LayoutOf};
 
 use model::Layout;
 use programs::{end_line, number, set, write};
 use records::{Line, Site};
-use refusals::Answer;
 use sets::NameNo;
 use std::rt::Files;
 
@@ -39,85 +38,72 @@ fn show_line<R: Print>(rt: &R, b: usize, i: usize, l: Line) {
 fn show_sites<R: Print>(rt: &R, image: &[u8], b: usize, k: usize, n: usize)
     requires { SitesAt image.now b k n }
 {
-    let mut i = 0;
-    while i < n {
+    for i in 0..n {
         show_site(rt, b, i, records::inside::site(image, k, i));
-        i += 1;
     }
 }
 
 fn show_lines<R: Print>(rt: &R, image: &[u8], b: usize, k: usize, n: usize)
     requires { LinesAt image.now b k n }
 {
-    let mut i = 0;
-    while i < n {
+    for i in 0..n {
         show_line(rt, b, i, records::inside::line(image, k, i));
-        i += 1;
     }
 }
 
+#[tactic(auto, using(crate::proofs::Shown::shown))]
 fn show_box<R: Print>(rt: &R, image: &[u8], l: Layout, b: usize)
-    requires { (read_model image.now ≡ none) × LayoutOf image.now l × (b < l.boxes) }
+    requires accepted { read_model image.now ≡ none }
+    requires layout { LayoutOf image.now l }
+    requires listed { b < l.boxes }
 {
-    let at = l.at;
-    let sites = l.sites;
-    let lines = l.lines;
-    let k = at[b];
-    let few = sites[b];
-    let n = lines[b];
+    let (k, sites, lines) = (l.at[b], l.sites[b], l.lines[b]);
     write(rt, b"box");
     number(rt, b as u64);
     write(rt, b" sites");
-    number(rt, few as u64);
+    number(rt, sites as u64);
     write(rt, b" lines");
-    number(rt, n as u64);
+    number(rt, lines as u64);
     end_line(rt);
-    show_sites(rt, image, b, k, few);
-    show_lines(rt, image, b, k, n);
+    show_sites(rt, image, b, k, sites);
+    show_lines(rt, image, b, k, lines);
 }
 
 fn show_boxes<R: Print>(rt: &R, image: &[u8], l: Layout)
-    requires { (read_model image.now ≡ none) × LayoutOf image.now l }
+    requires accepted { read_model image.now ≡ none }
+    requires layout { LayoutOf image.now l }
 {
-    let boxes = l.boxes;
     write(rt, b"boxes");
-    number(rt, boxes as u64);
+    number(rt, l.boxes as u64);
     end_line(rt);
-    let mut b = 0;
-    while b < boxes {
+    for b in 0..l.boxes {
         show_box(rt, image, l, b);
-        b += 1;
     }
 }
 
+#[tactic(auto, using(crate::proofs::Shown::shown))]
 fn show_names<R: Print>(rt: &R, image: &[u8], l: Layout)
-    requires { (read_model image.now ≡ none) × LayoutOf image.now l }
+    requires accepted { read_model image.now ≡ none }
+    requires layout { LayoutOf image.now l }
 {
-    let names = l.names;
     write(rt, b"names");
-    number(rt, names as u64);
+    number(rt, l.names as u64);
     end_line(rt);
-    let mut n = 0;
-    while n < names {
-        let kind = records::inside::kind(image, NameNo(n as u8));
+    for n in 0..l.names {
         write(rt, b"name");
         number(rt, n as u64);
-        number(rt, kind);
+        number(rt, records::inside::kind(image, NameNo(n as u8)));
         end_line(rt);
-        n += 1;
     }
 }
 
 fn show<R: Print>(rt: &R, image: &[u8]) {
-    let r = model::read(image);
-    let a = r.answer;
-    let l = r.layout;
-    match a {
-        Answer::NoRefusal => {
+    match model::read(image) {
+        Ok(l) => {
             show_names(rt, image, l);
             show_boxes(rt, image, l);
         }
-        Answer::Refused(x) => {
+        Err(x) => {
             write(rt, b"refused model");
             number(rt, x.number as u64);
             number(rt, x.place as u64);

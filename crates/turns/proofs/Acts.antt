@@ -1,11 +1,10 @@
 -- A move in a state: the records that it is made in are parts of the state, and what they become is what the move leaves. Assumes nothing.
-use mathlib.Core.Path.{◌≡◌, refl, ap, sym, ◌∙◌}
+use mathlib.Core.Path.{◌≡◌, refl, ap, ap₂, sym, ◌∙◌}
 use mathlib.Core.Logic.{◌≢◌}
 use mathlib.Core.Bool.{Bool}
 use mathlib.Core.List.{List, ◌++◌}
-use Prim.Native.Nat.{ℕ, ◌+◌, ◌-◌, ◌*◌, ◌≤◌, ◌<◌}
+use Prim.Native.Nat.{ℕ, ◌+◌, ◌*◌, ◌≤◌, ◌<◌}
 use native.Mathlib.Omega.{arith}
-use borrow.Author.Rules.{rules}
 use lib.ListN.{length, take, drop}
 use Rattle.definitions.specs.Bounded.{◌and◌, ◌or◌, ◌is◌, ◌below◌}
 use Rattle.definitions.specs.Model.{box_at, box_count, output, input}
@@ -20,21 +19,30 @@ use Rattle.definitions.proofs.StateRules.{StateFits, state_iff}
 use Rattle.definitions.proofs.Made.{refused-made, inside_act_lem, InterActMade, inter_act_lem, InterMade, inter-made}
 use Rattle.definitions.proofs.MoveRefusals.{meets, met_as, met, refused_iff}
 use Rattle.isolation.proofs.KeepState.{put_record_length, put_record_other, inside-size, inter-size, act_fits}
-use Rattle.state.proofs.Records.{record_part}
-use Rattle.state.proofs.Parts.{back_record}
+use Rattle.state.specs.declared.kinds.Kind as code
+use Rattle.state.specs.declared.kinds.Kind.TheVariants.{Drop, Spread, New, Copy, Expose, Hide, Unhide, Intra, Inter}
+use Rattle.state.specs.Kinds.{kind_number}
+use Rattle.state.proofs.Parts.{first_words, back_first}
 use Rattle.lookups.specs.Ready.{BoxReady, Ready}
 use Rattle.lookups.specs.Inside.{inside_as, inside_outcome}
 use Rattle.lookups.proofs.Ready.{read_boxes}
-use Rattle.deciding.specs.Numbers.{move_of}
+use Rattle.deciding.specs.declared.Blocked.{Blocked}
+use Rattle.deciding.proofs.Decided.{blocked_not}
+use Rattle.deciding.specs.Numbers.{blocked_number, move_of}
 use Rattle.deciding.proofs.States.{IsInter, not-inter, record_ready}
 use Rattle.making.specs.Left.{IsMade}
 
--- the record of box b as it is lent, and the state once it is back
-abbrev lent : ℕ → List ℕ → List ℕ
-lent b st = take (1139 * b + 1139 - 1139 * b) (drop (1139 * b) st)
-
+-- the state, once the words of box b are back
 abbrev back : ℕ → List ℕ → List ℕ → List ℕ
-back b st r = take (1139 * b) st ++ (r ++ drop (1139 * b + 1139 - 1139 * b) (drop (1139 * b) st))
+back b st r = take (1139 * b) st ++ (r ++ drop 1139 (drop (1139 * b) st))
+
+-- what a split of the state at box b's place lends: the record, and the state once its words are back
+pub lent_first : (st rest r : List ℕ) (b : ℕ) → rest ≡ drop (1139 * b) st → r ≡ take 1139 rest → r ≡ record_of st b
+lent_first st rest r b e d = d ∙ ap (take 1139) e ∙ first_words st b
+
+pub split_back : (st front rest : List ℕ) (b : ℕ) (r : List ℕ) → front ≡ take (1139 * b) st → rest ≡ drop (1139 * b) st
+    → front ++ (r ++ drop 1139 rest) ≡ back b st r
+split_back st front rest b r e d = ap₂ (λ (p q : List ℕ). p ++ (r ++ drop 1139 q)) e d
 
 module _ {image : List ℕ} {places : ℕ} {st : List ℕ} (k : Ready image places st) where
   fits : StateFits (model_of image) st
@@ -50,9 +58,6 @@ module _ {image : List ℕ} {places : ℕ} {st : List ℕ} (k : Ready image plac
 
     ready : (r : List ℕ) → r ≡ record_of st b → BoxReady image places b r
     ready r e = record_ready image places st k b (boxes_of image) refl listed r e
-
-    lent_ready : BoxReady image places b (lent b st)
-    lent_ready = ready (lent b st) (record_part st b)
 
 -- ---- inter
 
@@ -72,6 +77,9 @@ module _ {image : List ℕ} {places : ℕ} {st : List ℕ} (k : Ready image plac
   pub inter_long : length st ≡ 9112
   inter_long = (fits k).size
 
+  pub inter_room : 1139 * (b + 1) ≤ length st
+  inter_room = omega (arith, inter_box, inter_long)
+
   pub inter_room2 : 1139 * (c + 1) ≤ length st
   inter_room2 = omega (arith, inter_box2, inter_long)
 
@@ -87,71 +95,66 @@ module _ {image : List ℕ} {places : ℕ} {st : List ℕ} (k : Ready image plac
     sent_op = ap (λ (y : List ℕ). (thread_line (model_of image).kinds (box_at (model_of image) c) y u).op) e ∙ both.op_is2
 
   -- the input end, as it is lent
-  pub first_ready : BoxReady image places b (lent b st)
-  first_ready = lent_ready k b all.box
+  module _ (r : List ℕ) (d : r ≡ record_of st b) where
+    pub first_ready : BoxReady image places b r
+    first_ready = ready k b all.box r d
 
-  pub first_live : t < threads (lent b st)
-  first_live = rw (record_part st b) all.live
+    pub first_live : t < threads r
+    first_live = rw d all.live
 
-  pub first_op : (thread_line (model_of image).kinds (box_at (model_of image) b) (lent b st) t).op ≡ input
-  first_op = ap (λ (y : List ℕ). (thread_line (model_of image).kinds (box_at (model_of image) b) y t).op) (record_part st b) ∙ both.op_is
+    pub first_op : (thread_line (model_of image).kinds (box_at (model_of image) b) r t).op ≡ input
+    first_op = ap (λ (y : List ℕ). (thread_line (model_of image).kinds (box_at (model_of image) b) y t).op) d ∙ both.op_is
 
-  module _ (s : List ℕ) (e : s ≡ record_of st c) (v : ℕ) (d : v ≡ value2 (model_of image).kinds (box_at (model_of image) c) s u) (r1 : List ℕ)
-      (f : r1 ≡ put_thread (lent b st) t (onward_with (model_of image).kinds (box_at (model_of image) b) (lent b st) t (thread_line (model_of image).kinds (box_at (model_of image) b) (lent b st) t).name2 v)) where
-    value : v ≡ value2 (model_of image).kinds (box_at (model_of image) c) (record_of st c) u
-    value = d ∙ ap (λ (y : List ℕ). value2 (model_of image).kinds (box_at (model_of image) c) y u) e
+    module _ (s : List ℕ) (e : s ≡ record_of st c) (v : ℕ) (f : v ≡ value2 (model_of image).kinds (box_at (model_of image) c) s u) (r1 st1 : List ℕ)
+        (g : r1 ≡ put_thread r t (onward_with (model_of image).kinds (box_at (model_of image) b) r t (thread_line (model_of image).kinds (box_at (model_of image) b) r t).name2 v)) (h : st1 ≡ back b st r1) where
+      value : v ≡ value2 (model_of image).kinds (box_at (model_of image) c) (record_of st c) u
+      value = f ∙ ap (λ (y : List ℕ). value2 (model_of image).kinds (box_at (model_of image) c) y u) e
 
-    input-is : r1 ≡ all.ends.input
-    input-is =
-        f ∙ ap (λ (y : List ℕ). put_thread y t (onward_with (model_of image).kinds (box_at (model_of image) b) y t (thread_line (model_of image).kinds (box_at (model_of image) b) y t).name2 v)) (record_part st b)
-        ∙ ap (λ (w : ℕ). put_thread (record_of st b) t (onward_with (model_of image).kinds (box_at (model_of image) b) (record_of st b) t (thread_line (model_of image).kinds (box_at (model_of image) b) (record_of st b) t).name2 w)) value
-        ∙ sym both.input_leaves
+      input-is : r1 ≡ all.ends.input
+      input-is =
+          g ∙ ap (λ (y : List ℕ). put_thread y t (onward_with (model_of image).kinds (box_at (model_of image) b) y t (thread_line (model_of image).kinds (box_at (model_of image) b) y t).name2 v)) d
+          ∙ ap (λ (w : ℕ). put_thread (record_of st b) t (onward_with (model_of image).kinds (box_at (model_of image) b) (record_of st b) t (thread_line (model_of image).kinds (box_at (model_of image) b) (record_of st b) t).name2 w)) value
+          ∙ sym both.input_leaves
 
-    sizes : (length all.ends.input ≡ 1139) × (length all.ends.output ≡ 1139)
-    sizes = inter-size (model_of image) (valid_image image k.read) st (fits k) b t c u all.ends all.box all.box2 all.live all.live2 all.is_made
+      sizes : (length all.ends.input ≡ 1139) × (length all.ends.output ≡ 1139)
+      sizes = inter-size (model_of image) (valid_image image k.read) st (fits k) b t c u all.ends all.box all.box2 all.live all.live2 all.is_made
 
-    long1 : length r1 ≡ 1139
-    long1 = ap length input-is ∙ sizes.0
+      long1 : length r1 ≡ 1139
+      long1 = ap length input-is ∙ sizes.0
 
-    st1 : List ℕ
-    st1 = back b st r1
+      first : st1 ≡ put_record st b r1
+      first = h ∙ back_first st r1 b long1
 
-    first : st1 ≡ put_record st b r1
-    unfolding st1
-    first = back_record st r1 b long1
+      second_long : length st1 ≡ 9112
+      second_long = ap length first ∙ put_record_length st inter_long b inter_box r1 long1
 
-    pub second_long : length (back b st r1) ≡ 9112
-    unfolding st1
-    second_long = ap length first ∙ put_record_length st inter_long b inter_box r1 long1
+      pub second_room : 1139 * (c + 1) ≤ length st1
+      second_room = omega (arith, inter_box2, second_long)
 
-    same : record_of (back b st r1) c ≡ record_of st c
-    unfolding st1
-    same = ap (λ (y : List ℕ). record_of y c) first ∙ put_record_other st inter_long b inter_box r1 long1 c inter_box2 (λ z. all.differ (sym z))
+      same : record_of st1 c ≡ record_of st c
+      same = ap (λ (y : List ℕ). record_of y c) first ∙ put_record_other st inter_long b inter_box r1 long1 c inter_box2 (λ z. all.differ (sym z))
 
-    lent_same : lent c (back b st r1) ≡ record_of st c
-    lent_same = record_part (back b st r1) c ∙ same
+      module _ (s1 : List ℕ) (i : s1 ≡ record_of st1 c) where
+        pub second_ready : BoxReady image places c s1
+        second_ready = ready k c all.box2 s1 (i ∙ same)
 
-    pub second_ready : BoxReady image places c (lent c (back b st r1))
-    second_ready = ready k c all.box2 (lent c (back b st r1)) lent_same
+        pub second_live : u < threads s1
+        second_live = rw (i ∙ same) all.live2
 
-    pub second_live : u < threads (lent c (back b st r1))
-    second_live = rw lent_same all.live2
+        pub second_op : (thread_line (model_of image).kinds (box_at (model_of image) c) s1 u).op ≡ output
+        second_op = ap (λ (y : List ℕ). (thread_line (model_of image).kinds (box_at (model_of image) c) y u).op) (i ∙ same) ∙ both.op_is2
 
-    pub second_op : (thread_line (model_of image).kinds (box_at (model_of image) c) (lent c (back b st r1)) u).op ≡ output
-    second_op = ap (λ (y : List ℕ). (thread_line (model_of image).kinds (box_at (model_of image) c) y u).op) lent_same ∙ both.op_is2
+        module _ (r2 st2 : List ℕ) (j : r2 ≡ put_thread s1 u (onward (model_of image).kinds (box_at (model_of image) c) s1 u)) (q : st2 ≡ back c st1 r2) where
+          output-is : r2 ≡ all.ends.output
+          output-is = j ∙ ap (λ (y : List ℕ). put_thread y u (onward (model_of image).kinds (box_at (model_of image) c) y u)) (i ∙ same) ∙ sym both.output_leaves
 
-    module _ (r2 : List ℕ) (g : r2 ≡ put_thread (lent c (back b st r1)) u (onward (model_of image).kinds (box_at (model_of image) c) (lent c (back b st r1)) u)) where
-      output-is : r2 ≡ all.ends.output
-      output-is = g ∙ ap (λ (y : List ℕ). put_thread y u (onward (model_of image).kinds (box_at (model_of image) c) y u)) lent_same ∙ sym both.output_leaves
-
-      pub inter_left : inter_act (model_of image) st b t c u ≡ made (back c (back b st r1) r2)
-      unfolding st1
-      inter_left =
-          m.is ∙ ap made (all.leaves
-          ∙ ap (λ (y : List ℕ). put_record (put_record st b y) c all.ends.output) (sym input-is)
-          ∙ ap (λ (y : List ℕ). put_record (put_record st b r1) c y) (sym output-is)
-          ∙ ap (λ (y : List ℕ). put_record y c r2) (sym first)
-          ∙ sym (back_record (back b st r1) r2 c (ap length output-is ∙ sizes.1)))
+          pub inter_left : inter_act (model_of image) st b t c u ≡ made st2
+          inter_left =
+              m.is ∙ ap made (all.leaves
+              ∙ ap (λ (y : List ℕ). put_record (put_record st b y) c all.ends.output) (sym input-is)
+              ∙ ap (λ (y : List ℕ). put_record (put_record st b r1) c y) (sym output-is)
+              ∙ ap (λ (y : List ℕ). put_record y c r2) (sym first)
+              ∙ sym (q ∙ back_first st1 r2 c (ap length output-is ∙ sizes.1)))
 
 -- ---- a move of each kind
 
@@ -202,19 +205,34 @@ module _ {image : List ℕ} {places : ℕ} {st : List ℕ} (k : Ready image plac
     pub make_box : b < 8
     make_box = eight k b kept.box
 
-    pub make_ready : BoxReady image places b (lent b st)
-    make_ready = lent_ready k b kept.box
+    pub make_room : 1139 * (b + 1) ≤ length st
+    make_room = omega (arith, make_box, (fits k).size)
 
-    pub make_inside : IsMade (inside_outcome (model_of image).kinds (box_at (model_of image) b) (lent b st) kind t u)
-    make_inside = record { left = kept.new; is = ap (λ (y : List ℕ). inside_outcome (model_of image).kinds (box_at (model_of image) b) y kind t u) (record_part st b) ∙ kept.is_made }
+    module _ (r : List ℕ) (d : r ≡ record_of st b) where
+      pub make_ready : BoxReady image places b r
+      make_ready = ready k b kept.box r d
 
-    pub make_left : (r : List ℕ) → inside_outcome (model_of image).kinds (box_at (model_of image) b) (lent b st) kind t u ≡ made r → act (model_of image) st (move_of kind b t c u) ≡ made (back b st r)
-    make_left r e =
-        let d : inside_outcome (model_of image).kinds (box_at (model_of image) b) (record_of st b) kind t u ≡ made r = ap (λ (y : List ℕ). inside_outcome (model_of image).kinds (box_at (model_of image) b) y kind t u) (sym (record_part st b)) ∙ e in
-        kept.gives r d ∙ ap made (sym (back_record st r b (kept.size r d)))
+      pub make_inside : IsMade (inside_outcome (model_of image).kinds (box_at (model_of image) b) r kind t u)
+      make_inside = record { left = kept.new; is = ap (λ (y : List ℕ). inside_outcome (model_of image).kinds (box_at (model_of image) b) y kind t u) d ∙ kept.is_made }
 
-  pub make_long : length st ≡ 9112
-  make_long = (fits k).size
+      pub make_left : (r1 w : List ℕ) → inside_outcome (model_of image).kinds (box_at (model_of image) b) r kind t u ≡ made r1 → w ≡ back b st r1
+          → act (model_of image) st (move_of kind b t c u) ≡ made w
+      make_left r1 w e h =
+          let q : inside_outcome (model_of image).kinds (box_at (model_of image) b) (record_of st b) kind t u ≡ made r1 =
+          ap (λ (y : List ℕ). inside_outcome (model_of image).kinds (box_at (model_of image) b) y kind t u) (sym d) ∙ e in
+          kept.gives r1 q ∙ ap made (sym (h ∙ back_first st r1 b (kept.size r1 q)))
+
+-- a kind that is not inter has another number
+pub other_number : (q : code.Kind) → (q ≡ Inter → ⊥) → kind_number q ≢ 9
+other_number Drop h e = absurd (omega arith)
+other_number Spread h e = absurd (omega arith)
+other_number New h e = absurd (omega arith)
+other_number Copy h e = absurd (omega arith)
+other_number Expose h e = absurd (omega arith)
+other_number Hide h e = absurd (omega arith)
+other_number Unhide h e = absurd (omega arith)
+other_number Intra h e = absurd (omega arith)
+other_number Inter h e = h refl
 
 -- ---- the answer of a move
 
@@ -223,39 +241,36 @@ pub never_zero : (image st : List ℕ) (v : Move) → act (model_of image) st v 
 unfolding met met_as meets ◌is◌ ◌and◌ ◌or◌
 never_zero image st v e = ((refused_iff (model_of image) st v 0).0 e).is_met
 
-module _ {image : List ℕ} {places : ℕ} {st : List ℕ} (k : Ready image places st) (kind b t c u n : ℕ) (e : n ≡ outcome_number (act (model_of image) st (move_of kind b t c u))) where
-  pub turn-made : n ≡ 0 → IsMade (act (model_of image) st (move_of kind b t c u))
-  turn-made z = go (act (model_of image) st (move_of kind b t c u)) refl
+module _ {image : List ℕ} {places : ℕ} {st : List ℕ} (k : Ready image places st) (v : Move) where
+  pub turn-made : 0 ≡ outcome_number (act (model_of image) st v) → IsMade (act (model_of image) st v)
+  turn-made e = go (act (model_of image) st v) refl
     where
-      go : (o : Outcome (List ℕ)) → act (model_of image) st (move_of kind b t c u) ≡ o → IsMade (act (model_of image) st (move_of kind b t c u))
+      go : (o : Outcome (List ℕ)) → act (model_of image) st v ≡ o → IsMade (act (model_of image) st v)
       go (refused i) q =
-          let y : i ≡ 0 = sym (ap outcome_number q) ∙ sym e ∙ z in
-          absurd (never_zero image st (move_of kind b t c u) (q ∙ ap refused y))
+          let y : i ≡ 0 = sym (ap outcome_number q) ∙ sym e in
+          absurd (never_zero image st v (q ∙ ap refused y))
       go (made w) q = record { left = w; is = q }
 
-  module _ (w : List ℕ) (q : act (model_of image) st (move_of kind b t c u) ≡ made w) where
-    pub turn-zero : 0 ≡ outcome_number (act (model_of image) st (move_of kind b t c u))
+  module _ (w : List ℕ) (q : act (model_of image) st v ≡ made w) where
+    pub turn-zero : 0 ≡ outcome_number (act (model_of image) st v)
     turn-zero = sym (ap outcome_number q)
 
-    pub turn_words : w ≡ outcome_words st (act (model_of image) st (move_of kind b t c u))
+    pub turn_words : w ≡ outcome_words st (act (model_of image) st v)
     turn_words = sym (ap (outcome_words st) q)
 
     pub turn_keeps : Ready image places w
     turn_keeps = record {
       read = k.read;
       placed = k.placed;
-      fits = (state_iff (model_of image) w).1 (act_fits (model_of image) (valid_image image k.read) st (fits k) (move_of kind b t c u) w q);
+      fits = (state_iff (model_of image) w).1 (act_fits (model_of image) (valid_image image k.read) st (fits k) v w q);
     }
 
-  pub turn-refused : n ≢ 0 → st ≡ outcome_words st (act (model_of image) st (move_of kind b t c u))
-  turn-refused h = go (act (model_of image) st (move_of kind b t c u)) refl
-    where
-      go : (o : Outcome (List ℕ)) → act (model_of image) st (move_of kind b t c u) ≡ o → st ≡ outcome_words st (act (model_of image) st (move_of kind b t c u))
-      go (refused i) q = sym (ap (outcome_words st) q)
-      go (made w) q = absurd (h (e ∙ ap outcome_number q))
+-- a move that is refused leaves the words as they are
+pub turn-refused : (o : Outcome (List ℕ)) (st : List ℕ) (e : Blocked) → blocked_number e ≡ outcome_number o → st ≡ outcome_words st o
+turn-refused (refused i) st e q = refl
+turn-refused (made w) st e q = absurd (blocked_not e (sym q))
 
-pub ruleset inters = (rules, inter_box, inter_box2, inter_long, inter_room2, sent_ready, sent_live, sent_op, first_ready, first_live, first_op, second_long, second_ready, second_live, second_op, inter_left)
-
-pub ruleset makes = (rules, make_inter, make_inter_left, make_box, make_ready, make_inside, make_left, make_long)
-
-pub ruleset turns = (rules, turn-made, turn-zero, turn_words, turn_keeps, turn-refused)
+-- a move of an unknown kind is not made
+pub kind_known : (image st : List ℕ) (v : Move) → IsMade (act (model_of image) st v) → kind_of_move v.kind ≡ unknown → ⊥
+unfolding act act_as
+kind_known image st v m e = refused-made (ap (λ (q : Kind). act_as (model_of image) st q v) (sym e) ∙ m.is)

@@ -7,8 +7,10 @@ ghost use Rattle.lookups.specs.Ready.{PlacesOf};
 ghost use Rattle.turns.specs.Places.{PlacesFrom};
 
 // The blocks of the sites of so many boxes, the first being block k.
+#[tactic(auto, using(crate::proofs::Placed::placed))]
 fn from(model: &[u8], k: usize, left: usize) -> u64
-    requires { (read_model model.now ≡ none) × (k + 5 * left ≤ 41) }
+    requires read { read_model model.now ≡ none }
+    requires room { k + 5 * left ≤ 41 }
     ensures { PlacesFrom model.now k left result }
 {
     if left == 0 {
@@ -18,6 +20,7 @@ fn from(model: &[u8], k: usize, left: usize) -> u64
     k as u64 + 256 * from(model, next, left - 1)
 }
 
+#[tactic(auto, using(crate::proofs::Placed::placed))]
 pub fn of(model: &[u8]) -> u64
     requires { read_model model.now ≡ none }
     ensures { PlacesOf model.now result }

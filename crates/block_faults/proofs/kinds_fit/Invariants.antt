@@ -1,11 +1,7 @@
--- `block_faults::kinds_fit` meets its contract. Assumes nothing.
-use Prim.Native.Nat.{◌-◌}
-use Rattle.definitions.specs.Words.{block_of}
-use Rattle.block_faults.proofs.FaultLaws.{KindsPassed, block-faults}
+-- `block_faults::kinds_fit`: the kinds passed are at most 3. Assumes nothing.
+use Prim.Native.Nat.{ℕ, ◌+◌, ◌≤◌, ◌<◌}
+use Rattle.definitions.specs.Words.{block_of, data_word}
 use Rattle.block_faults.proofs.kinds_fit.Given as goal
 
 abbrev pub invariant-loop-n : goal.invariant-loop-n
-invariant-loop-n l = KindsPassed (block_of l.image 0) l.names l.n
-
-abbrev pub decreases-loop-n : goal.decreases-loop-n
-decreases-loop-n l = l.names - l.n
+invariant-loop-n l = (i : ℕ) → i < l.n → data_word (block_of l.image 0) (2 + i) ≤ 3

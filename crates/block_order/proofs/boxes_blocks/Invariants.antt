@@ -1,10 +1,10 @@
--- `block_order::boxes_blocks` meets its contract. Assumes nothing.
-use Prim.Native.Nat.{◌-◌}
-use Rattle.block_order.proofs.Faults.{BoxesPassed, order}
+-- `block_order::boxes_blocks`: the boxes passed have no fault, and k is where the next one's sites are to be. Assumes nothing.
+use Prim.Native.Nat.{◌+◌, ◌*◌, ◌≤◌}
+use mathlib.Core.Path.{◌≡◌}
+use Rattle.definitions.specs.Image.{sites_block}
+use Rattle.definitions.specs.ReadModel.{box_fault}
+use Rattle.definitions.proofs.Loops.{Passed}
 use Rattle.block_order.proofs.boxes_blocks.Given as goal
 
 abbrev pub invariant-loop-b : goal.invariant-loop-b
-invariant-loop-b l = BoxesPassed l.image l.boxes l.b l.k
-
-abbrev pub decreases-loop-b : goal.decreases-loop-b
-decreases-loop-b l = l.boxes - l.b
+invariant-loop-b l = record { at : l.k ≡ sites_block l.image l.b; small : l.k ≤ 1 + 5 * l.b; passed : Passed l.boxes (box_fault l.image) l.b }

@@ -1,6 +1,6 @@
 -- `box_records::is_clear` meets its contract. Assumes nothing.
 use Prim.Native.Nat.{◌-◌}
-use Rattle.box_records.proofs.WordLaws.{ClearRuns, words}
+use Rattle.box_records.proofs.WordLaws.{ClearRuns}
 use Rattle.box_records.proofs.is_clear.Given as goal
 
 abbrev pub invariant-loop-i : goal.invariant-loop-i

@@ -1,11 +1,6 @@
 -- `box_records::lines_used` meets its contract. Assumes nothing.
-use Prim.Native.Nat.{◌-◌}
 use Rattle.box_records.specs.Rules.{StandBelow}
-use Rattle.box_records.proofs.ThreadLaws.{stand-rules}
 use Rattle.box_records.proofs.lines_used.Given as goal
 
 abbrev pub invariant-loop-t : goal.invariant-loop-t
 invariant-loop-t l = StandBelow l.r l.lines l.t l.used
-
-abbrev pub decreases-loop-t : goal.decreases-loop-t
-decreases-loop-t l = 16 - l.t

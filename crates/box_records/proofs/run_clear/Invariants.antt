@@ -1,12 +1,7 @@
 -- `box_records::run_clear` meets its contract. Assumes nothing.
-use Prim.Native.Nat.{◌-◌}
 use Rattle.definitions.specs.Slots.{word}
 use Rattle.definitions.proofs.Loops.{ZeroRun}
-use Rattle.box_records.proofs.WordLaws.{words}
 use Rattle.box_records.proofs.run_clear.Given as goal
 
 abbrev pub invariant-loop-i : goal.invariant-loop-i
 invariant-loop-i l = ZeroRun (word l.r) l.from l.to l.i l.w
-
-abbrev pub decreases-loop-i : goal.decreases-loop-i
-decreases-loop-i l = l.to - l.i

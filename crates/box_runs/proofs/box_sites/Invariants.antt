@@ -1,10 +1,6 @@
 -- `box_runs::box_sites` meets its contract. Assumes nothing.
-use Prim.Native.Nat.{◌-◌}
-use Rattle.box_runs.proofs.Runs.{SiteRun, runs}
+use Rattle.box_runs.proofs.Runs.{SiteRun}
 use Rattle.box_runs.proofs.box_sites.Given as goal
 
 abbrev pub invariant-loop-i : goal.invariant-loop-i
 invariant-loop-i l = SiteRun l.image l.b l.n l.i l.seen
-
-abbrev pub decreases-loop-i : goal.decreases-loop-i
-decreases-loop-i l = l.n - l.i

@@ -1,12 +1,7 @@
 -- `box_runs::children` meets its contract. Assumes nothing.
-use Prim.Native.Nat.{◌-◌, ◌≤◌}
 use Rattle.box_runs.specs.Runs.{child_in}
 use Rattle.record_rules.specs.LineSets.{LineSetOf}
-use Rattle.box_runs.proofs.Runs.{runs}
 use Rattle.box_runs.proofs.children.Given as goal
 
 abbrev pub invariant-loop-i : goal.invariant-loop-i
-invariant-loop-i l = (l.i ≤ l.n) × LineSetOf l.s (child_in l.image l.k l.i)
-
-abbrev pub decreases-loop-i : goal.decreases-loop-i
-decreases-loop-i l = l.n - l.i
+invariant-loop-i l = LineSetOf l.s (child_in l.image l.k l.i)

@@ -1,22 +1,14 @@
 -- `clause_walk::lines_pass` meets its contract. Assumes nothing.
-use Rattle.clause_walk.proofs.Shows.{shown}
-use borrow.Author.Rules.{rules}
+use Rattle.std.proofs.Common.{sym, ◌∙◌}
+use Rattle.clause_walk.proofs.Shows.{lines_yes}
 use Rattle.clause_walk.proofs.lines_pass.Goals as goal
+use Rattle.clause_walk.proofs.lines_pass.Goals.{then-names_pass, else-names_pass}
 
-pub names_pass-requires : goal.names_pass-requires
-names_pass-requires c = search shown
-
-pub returns-then-not-names_pass : goal.returns-then-not-names_pass
-returns-then-not-names_pass c = search shown
-
-pub outputs_pass-requires : goal.outputs_pass-requires
-outputs_pass-requires c = search shown
-
-pub returns-then-not-outputs_pass : goal.returns-then-not-outputs_pass
-returns-then-not-outputs_pass c = search shown
-
-pub list_passes-requires : goal.list_passes-requires
-list_passes-requires c = search shown
-
-pub returns : goal.returns
-returns c = search shown
+pub returns-then-outputs_pass : goal.returns-then-outputs_pass
+returns-then-outputs_pass c =
+    elim c.if-names_pass.branch [
+      | then-names_pass w ↦
+          lines_yes _ _ _ _ _ _ _ _ c.requires.lines c.gather-c.ensures _ _ _ _ _ c.names_pass.ensures w.if-names_pass.true
+          w.outputs_pass.ensures (sym w.value-is ∙ c.if-outputs_pass.true) c.list_passes.ensures
+      | else-names_pass w ↦ absurd (cc)
+    ]

@@ -1,43 +1,31 @@
 -- `clause_walk::outputs_pass` meets its contract. Assumes nothing.
-use Rattle.clause_walk.proofs.Shows.{outputs}
-use Rattle.definitions.specs.Estimate.{estimate_of}
-use Rattle.sets.proofs.Walk.{EachLeft}
-use Rattle.sharing.specs.Shared.{may_send, GatheredOf}
-use lib.ListN.{get_or}
+use Rattle.sets.proofs.Walk.{each_start}
+use Rattle.clauses.proofs.Members.{left_62, names_rho}
+use Rattle.sharing.proofs.Gather.{nothing_of}
+use Rattle.clause_walk.proofs.Shows.{channel_stop, channel_turn, most_as}
 use Rattle.clause_walk.proofs.outputs_pass.Goals as goal
 
-pub nothing-g-requires : goal.nothing-g-requires
-nothing-g-requires c = search outputs
+pub loop-p-init : goal.loop-p-init
+loop-p-init c = record {
+  passed = rw c.into_iter-p-iterator.ensures.into_iter_gives (each_start _ _ c.ranges.on.fits);
+  gathered = nothing_of _ _ _ _ c.nothing-g.ensures;
+}
 
-pub loop-left-init : goal.loop-left-init
-loop-left-init c = search outputs
-
-pub lowest-p-requires : goal.lowest-p-requires
-lowest-p-requires c = search outputs
-
-pub rho-requires : goal.rho-requires
-rho-requires c = search outputs
-
-pub for_outputs-g-requires : goal.for_outputs-g-requires
-for_outputs-g-requires c = search outputs
-
-pub sent_on-requires : goal.sent_on-requires
-sent_on-requires c = search outputs
-
-pub is_subset-requires : goal.is_subset-requires
-is_subset-requires c = search outputs
+pub for_outputs-g-requires-clause-names : goal.for_outputs-g-requires-clause-names
+for_outputs-g-requires-clause-names c =
+    names_rho _ _ _ _ c.requires.there (left_62 _ _ _ _ c.requires.names c.loop-p.invariant.passed.there c.in-Some.ensures.steps) c.rho.ensures
 
 pub returns-then-not-is_subset : goal.returns-then-not-is_subset
-returns-then-not-is_subset c = search outputs
+returns-then-not-is_subset c =
+    channel_stop _ _ _ _ _ _ c.loop-p.invariant.passed c.in-Some.ensures.steps
+    (most_as _ _ _ _ _ _ _ _ _ c.for_outputs-g.ensures.gathered c.for_outputs-g.ensures.out c.rho.ensures c.from.ensures c.is_subset.ensures)
+    c.if-not-is_subset.true
 
-pub without_lowest-left-requires : goal.without_lowest-left-requires
-without_lowest-left-requires c = search outputs
-
-pub loop-left-smaller : goal.loop-left-smaller
-loop-left-smaller c = search outputs
-
-pub loop-left-preserved : goal.loop-left-preserved
-loop-left-preserved c = search outputs
-
-pub returns : goal.returns
-returns c = search outputs
+pub loop-p-preserved : goal.loop-p-preserved
+loop-p-preserved c = record {
+  passed =
+      channel_turn _ _ _ _ _ _ c.loop-p.invariant.passed c.in-Some.ensures.steps
+      (most_as _ _ _ _ _ _ _ _ _ c.for_outputs-g.ensures.gathered c.for_outputs-g.ensures.out c.rho.ensures c.from.ensures c.is_subset.ensures)
+      c.if-not-is_subset.false;
+  gathered = c.for_outputs-g.ensures.gathered;
+}

@@ -2,11 +2,7 @@
 use Rattle.definitions.specs.Sets.{missing}
 use Rattle.definitions.specs.Estimate.{estimate_of}
 use Rattle.subsets.proofs.Walk.{ShortLeft}
-use Rattle.clauses.proofs.Members.{shorts}
 use Rattle.clauses.proofs.types_missing.Given as goal
 
-abbrev pub invariant-loop-left : goal.invariant-loop-left
-invariant-loop-left l = ShortLeft (λ g. missing ((estimate_of l.estimate).rho g) l.x) l.s l.left
-
-abbrev pub decreases-loop-left : goal.decreases-loop-left
-decreases-loop-left l = l.left
+abbrev pub invariant-loop-g : goal.invariant-loop-g
+invariant-loop-g l = ShortLeft (λ g. missing ((estimate_of l.estimate).rho g) l.x) l.s l.g-iterator.0

@@ -1,21 +1,18 @@
 -- `first_broken::find` meets its contract: names, then boxes. Assumes nothing.
-use Rattle.first_broken.proofs.Steps.{finds}
+use Rattle.std.proofs.lemmas.Result.{err_from_is_err_and}
+use Rattle.definitions.specs.Estimate.{estimate_of}
+use Rattle.first_broken.proofs.Steps.{all_stop, all_go, finds}
+use Rattle.first_broken.proofs.Facts.{kind_names}
 use Rattle.first_broken.proofs.find.Goals as goal
 
-pub names-f-requires : goal.names-f-requires
-names-f-requires c = search finds
+pub returns-in_err-names : goal.returns-in_err-names
+returns-in_err-names c =
+    let p = err_from_is_err_and c.from_residual.result c.from_residual.ensures.1 in
+    rw (p.1, p.2) (all_stop _ _ (estimate_of _) _ c.requires.of_model (search finds) c.in_err-names.ensures)
 
-pub returns-in-First : goal.returns-in-First
-returns-in-First c = search finds
-
-pub sends-sends-requires : goal.sends-sends-requires
-sends-sends-requires c = search finds
-
-pub all_types-types-requires : goal.all_types-types-requires
-all_types-types-requires c = search finds
-
-pub boxes-requires : goal.boxes-requires
-boxes-requires c = search finds
+pub names-requires-clause-names : goal.names-requires-clause-names
+names-requires-clause-names c = kind_names _ _ c.requires.unrefused _ _ c.requires.of_model.frame.free
 
 pub returns : goal.returns
-returns c = search finds
+returns c =
+    all_go _ _ (estimate_of c.args.estimate.now) _ c.requires.of_model (search finds) c.in_ok-names.ensures (rw c.new-t.ensures.of at c.boxes.ensures)

@@ -1,10 +1,6 @@
 -- `layouts::frame_of` meets its contract. Assumes nothing.
-use Prim.Native.Nat.{◌-◌}
-use Rattle.layouts.proofs.LayoutLaws.{FrameSoFar, layouts}
+use Rattle.layouts.proofs.LayoutLaws.{FrameSoFar}
 use Rattle.layouts.proofs.frame_of.Given as goal
 
 abbrev pub invariant-loop-b : goal.invariant-loop-b
 invariant-loop-b l = FrameSoFar l.image l.boxes l.b l.k l.at l.sites l.lines
-
-abbrev pub decreases-loop-b : goal.decreases-loop-b
-decreases-loop-b l = l.boxes - l.b

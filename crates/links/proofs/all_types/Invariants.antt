@@ -1,12 +1,8 @@
 -- `links::all_types` meets its contract: the entries passed are right. Assumes nothing.
-use Prim.Native.Nat.{◌-◌}
 use Rattle.definitions.specs.Estimate.{estimate_of}
 use Rattle.clauses.proofs.Rows.{Rows}
-use Rattle.links.proofs.Links.{TypesOf, unions}
+use Rattle.links.proofs.Links.{TypesOf}
 use Rattle.links.proofs.all_types.Given as goal
 
 abbrev pub invariant-loop-i : goal.invariant-loop-i
 invariant-loop-i l = Rows (TypesOf (estimate_of l.estimate)) l.i l.t
-
-abbrev pub decreases-loop-i : goal.decreases-loop-i
-decreases-loop-i l = l.boxes - l.i

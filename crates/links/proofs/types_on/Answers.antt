@@ -1,28 +1,12 @@
 -- `links::types_on` meets its contract: the types of the names passed are gathered. Assumes nothing.
-use Rattle.definitions.specs.Estimate.{estimate_of}
-use Rattle.links.proofs.Links.{Typing, unions}
+use Rattle.links.proofs.Links.{typing_start, typing_turn, typing_62}
 use Rattle.links.proofs.types_on.Goals as goal
 
-pub loop-left-init : goal.loop-left-init
-loop-left-init c = search unions
+pub loop-c-init : goal.loop-c-init
+loop-c-init c = rw c.into_iter-c-iterator.ensures.into_iter_gives (typing_start _ _ _ c.ranges.s.fits)
 
-pub lowest-c-requires : goal.lowest-c-requires
-lowest-c-requires c = search unions
+pub eps-requires-clause-word : goal.eps-requires-clause-word
+eps-requires-clause-word c = typing_62 _ _ _ _ _ _ _ c.requires.names c.loop-c.invariant c.in-Some.ensures.steps
 
-pub eps-requires : goal.eps-requires
-eps-requires c = search unions
-
-pub union-v-requires : goal.union-v-requires
-union-v-requires c = search unions
-
-pub without_lowest-left-requires : goal.without_lowest-left-requires
-without_lowest-left-requires c = search unions
-
-pub loop-left-smaller : goal.loop-left-smaller
-loop-left-smaller c = search unions
-
-pub loop-left-preserved : goal.loop-left-preserved
-loop-left-preserved c = search unions
-
-pub returns : goal.returns
-returns c = search unions
+pub loop-c-preserved : goal.loop-c-preserved
+loop-c-preserved c = typing_turn _ _ _ _ _ c.loop-c.invariant _ _ _ _ c.in-Some.ensures.steps c.union-v.ensures c.eps.ensures

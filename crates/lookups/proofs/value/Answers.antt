@@ -10,9 +10,3 @@ stamped-requires c = search lookups
 
 pub binding-requires : goal.binding-requires
 binding-requires c = search lookups
-
-pub returns-then-kind-eq0 : goal.returns-then-kind-eq0
-returns-then-kind-eq0 c = search lookups
-
-pub returns-else-kind-eq0 : goal.returns-else-kind-eq0
-returns-else-kind-eq0 c = search lookups

@@ -1,37 +1,17 @@
 -- `model_rules::lines_pass` meets its contract. Assumes nothing.
-use Prim.Native.Nat.{◌-◌}
-use Rattle.model_rules.proofs.PassLaws.{LinesPass, passes}
+use Rattle.std.proofs.Common.{arith}
+use Rattle.layouts.proofs.FrameLaws.{kinds_in}
+use Rattle.model_rules.proofs.PassLaws.{boxes_start, lines_turn, boxes_end}
 use Rattle.model_rules.proofs.lines_pass.Goals as goal
 
 pub loop-b-init : goal.loop-b-init
-loop-b-init c = search passes
+loop-b-init c = boxes_start _ _ c.requires.right c.requires.layout.frame _ _ _
 
-pub offset_bounds-at-b : goal.offset_bounds-at-b
-offset_bounds-at-b c = search passes
-
-pub bounds-at-b : goal.bounds-at-b
-bounds-at-b c = search passes
-
-pub offset_bounds-lines-b : goal.offset_bounds-lines-b
-offset_bounds-lines-b c = search passes
-
-pub bounds-lines-b : goal.bounds-lines-b
-bounds-lines-b c = search passes
-
-pub box_lines-f-requires : goal.box_lines-f-requires
-box_lines-f-requires c = search passes
-
-pub returns-in-Refused : goal.returns-in-Refused
-returns-in-Refused c = search passes
-
-pub overflow_add-b : goal.overflow_add-b
-overflow_add-b c = search passes
-
-pub loop-b-smaller : goal.loop-b-smaller
-loop-b-smaller c = search passes
+pub box_lines-requires-clause-kinds : goal.box_lines-requires-clause-kinds
+box_lines-requires-clause-kinds c = kinds_in _ _ c.requires.right c.requires.layout.frame
 
 pub loop-b-preserved : goal.loop-b-preserved
-loop-b-preserved c = search passes
+loop-b-preserved c = lines_turn _ _ _ c.requires.right c.requires.layout.frame (omega arith) _ _ c.loop-b.invariant c.in_ok-box_lines.ensures
 
 pub returns : goal.returns
-returns c = search passes
+returns c = boxes_end _ _ _ _ _ _ c.loop-b.invariant (omega arith)

@@ -1,10 +1,9 @@
 -- `model_rules::lines_pass` meets its contract. Assumes nothing.
-use Prim.Native.Nat.{◌-◌}
-use Rattle.model_rules.proofs.PassLaws.{LinesPass, passes}
+use Rattle.definitions.specs.Model.{line_count}
+use Rattle.definitions.specs.Image.{model_of}
+use Rattle.box_runs.specs.Runs.{line_fit}
+use Rattle.model_rules.proofs.PassLaws.{BoxesFit}
 use Rattle.model_rules.proofs.lines_pass.Given as goal
 
 abbrev pub invariant-loop-b : goal.invariant-loop-b
-invariant-loop-b l = LinesPass l.image l.b
-
-abbrev pub decreases-loop-b : goal.decreases-loop-b
-decreases-loop-b l = l.boxes - l.b
+invariant-loop-b l = BoxesFit (model_of l.image) l.l.boxes 7 line_count (line_fit (model_of l.image)) l.b

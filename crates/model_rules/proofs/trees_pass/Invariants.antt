@@ -1,10 +1,9 @@
 -- `model_rules::trees_pass` meets its contract. Assumes nothing.
-use Prim.Native.Nat.{◌-◌}
-use Rattle.model_rules.proofs.PassLaws.{TreesPass, passes}
+use Rattle.definitions.specs.Model.{line_count}
+use Rattle.definitions.specs.Image.{model_of}
+use Rattle.box_runs.specs.Runs.{tree_fit}
+use Rattle.model_rules.proofs.PassLaws.{BoxesFit}
 use Rattle.model_rules.proofs.trees_pass.Given as goal
 
 abbrev pub invariant-loop-b : goal.invariant-loop-b
-invariant-loop-b l = TreesPass l.image l.b
-
-abbrev pub decreases-loop-b : goal.decreases-loop-b
-decreases-loop-b l = l.boxes - l.b
+invariant-loop-b l = BoxesFit (model_of l.image) l.l.boxes 8 line_count (tree_fit (model_of l.image)) l.b

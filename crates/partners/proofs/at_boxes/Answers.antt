@@ -1,28 +1,13 @@
 -- `partners::at_boxes` meets its contract: the boxes passed are short of nothing. Assumes nothing.
-use Prim.Native.Nat.{◌-◌}
-use Rattle.definitions.specs.Estimate.{estimate_of}
-use Rattle.definitions.proofs.Loops.{Passed}
-use Rattle.partners.specs.Partners.{of_box}
+use Rattle.std.proofs.lemmas.Result.{err_from_is_err_and}
+use Rattle.definitions.proofs.Loops.{passed_start, passed_stop}
 use Rattle.partners.proofs.Partners.{partners}
 use Rattle.partners.proofs.at_boxes.Goals as goal
 
 pub loop-k-init : goal.loop-k-init
-loop-k-init c = search partners
+loop-k-init c = passed_start _ _
 
-pub at_box-r-requires : goal.at_box-r-requires
-at_box-r-requires c = search partners
-
-pub returns-in-Lacks : goal.returns-in-Lacks
-returns-in-Lacks c = search partners
-
-pub overflow_add-k : goal.overflow_add-k
-overflow_add-k c = search partners
-
-pub loop-k-smaller : goal.loop-k-smaller
-loop-k-smaller c = search partners
-
-pub loop-k-preserved : goal.loop-k-preserved
-loop-k-preserved c = search partners
-
-pub returns : goal.returns
-returns c = search partners
+pub returns-in_err-at_box : goal.returns-in_err-at_box
+returns-in_err-at_box c =
+    let p = err_from_is_err_and c.from_residual.result c.from_residual.ensures.1 in
+    rw (p.1, p.2) (passed_stop _ _ _ _ c.loop-k.invariant (search partners) c.in_err-at_box.ensures)

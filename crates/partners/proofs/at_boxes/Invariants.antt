@@ -1,13 +1,8 @@
 -- `partners::at_boxes` meets its contract: the boxes passed are short of nothing. Assumes nothing.
-use Prim.Native.Nat.{◌-◌}
 use Rattle.definitions.specs.Estimate.{estimate_of}
 use Rattle.definitions.proofs.Loops.{Passed}
 use Rattle.partners.specs.Partners.{of_box}
-use Rattle.partners.proofs.Partners.{partners}
 use Rattle.partners.proofs.at_boxes.Given as goal
 
 abbrev pub invariant-loop-k : goal.invariant-loop-k
 invariant-loop-k l = Passed l.boxes (of_box (estimate_of l.estimate) l.b l.x l.q) l.k
-
-abbrev pub decreases-loop-k : goal.decreases-loop-k
-decreases-loop-k l = l.boxes - l.k

@@ -2,11 +2,7 @@
 use Rattle.definitions.specs.Estimate.{estimate_of}
 use Rattle.subsets.proofs.Walk.{ShortLeft}
 use Rattle.partners.specs.Partners.{of_boxes}
-use Rattle.partners.proofs.Partners.{partners}
 use Rattle.partners.proofs.each_partner.Given as goal
 
-abbrev pub invariant-loop-left : goal.invariant-loop-left
-invariant-loop-left l = ShortLeft (of_boxes (estimate_of l.estimate) l.boxes l.b l.q) l.s l.left
-
-abbrev pub decreases-loop-left : goal.decreases-loop-left
-decreases-loop-left l = l.left
+abbrev pub invariant-loop-a : goal.invariant-loop-a
+invariant-loop-a l = ShortLeft (of_boxes (estimate_of l.estimate) l.boxes l.b l.q) l.s l.a-iterator.0

@@ -1,15 +1,6 @@
 -- `record_rules::child_fits` meets its contract. Assumes nothing.
-use Rattle.record_rules.proofs.RuleLaws.{records}
+use Rattle.record_rules.proofs.RuleLaws.{child_in}
 use Rattle.record_rules.proofs.child_fits.Goals as goal
 
-pub both-requires : goal.both-requires
-both-requires c = search records
-
-pub has_line-requires : goal.has_line-requires
-has_line-requires c = search records
-
-pub returns-then-both : goal.returns-then-both
-returns-then-both c = search records
-
-pub returns-else-both : goal.returns-else-both
-returns-else-both c = search records
+pub returns-then-i-c : goal.returns-then-i-c
+returns-then-i-c c = child_in _ _ _ _ _ c.if-i-c.true c.has_line.ensures

@@ -1,33 +1,19 @@
 -- `record_rules::tree_fits` meets its contract. Assumes nothing.
-use Rattle.record_rules.proofs.RuleLaws.{records}
+use Rattle.records.specs.Records.{line_in}
+use Rattle.record_rules.proofs.RuleLaws.{tree-unnamed, tree-nil, tree-first, tree-one, tree-two}
 use Rattle.record_rules.proofs.tree_fits.Goals as goal
 
-pub has_line-requires : goal.has_line-requires
-has_line-requires c = search records
-
-pub implies-child-requires : goal.implies-child-requires
-implies-child-requires c = search records
-
 pub returns-then-not-child : goal.returns-then-not-child
-returns-then-not-child c = search records
+returns-then-not-child c = tree-unnamed (line_in c.args.l) _ _ _ _ _ c.has_line.ensures c.if-not-child.true
 
-pub returns-then-l-eq0 : goal.returns-then-l-eq0
-returns-then-l-eq0 c = search records
-
-pub child_fits-requires : goal.child_fits-requires
-child_fits-requires c = search records
+pub returns-then-l : goal.returns-then-l
+returns-then-l c = tree-nil (line_in c.args.l) _ _ _ _ _ c.has_line.ensures c.if-not-child.false c.if-l.true
 
 pub returns-then-not-child_fits : goal.returns-then-not-child_fits
-returns-then-not-child_fits c = search records
+returns-then-not-child_fits c = tree-first (line_in c.args.l) _ _ _ _ _ c.if-l.false c.child_fits.ensures c.if-not-child_fits.true
 
-pub child_fits-requires-then-l-eq1 : goal.child_fits-requires-then-l-eq1
-child_fits-requires-then-l-eq1 c = search records
+pub returns-then-l-2 : goal.returns-then-l-2
+returns-then-l-2 c = tree-two (line_in c.args.l) _ _ _ _ _ c.has_line.ensures _ c.if-not-child.false c.if-l.false c.child_fits.ensures c.if-not-child_fits.false _ c.if-l-2.true c.child_fits-then-l-2.ensures
 
-pub both-requires : goal.both-requires
-both-requires c = search records
-
-pub returns-then-l-eq1 : goal.returns-then-l-eq1
-returns-then-l-eq1 c = search records
-
-pub returns-else-l-eq1 : goal.returns-else-l-eq1
-returns-else-l-eq1 c = search records
+pub returns-else-l-2 : goal.returns-else-l-2
+returns-else-l-2 c = tree-one (line_in c.args.l) _ _ _ _ _ c.has_line.ensures _ c.if-not-child.false c.if-l.false c.child_fits.ensures c.if-not-child_fits.false c.if-l-2.false

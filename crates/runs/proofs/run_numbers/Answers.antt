@@ -1,25 +1,15 @@
 -- `runs::run_numbers` meets its contract. Assumes nothing.
-use Prim.Native.Nat.{◌-◌}
-use Rattle.runs.proofs.RunLaws.{NumbersRun, numbers_start, numbers_end, numbers}
+use Rattle.std.proofs.Common.{arith, sym, ◌∙◌, ◌<◌, length}
+use Rattle.runs.specs.Begins.{moves_of}
+use Rattle.runs.proofs.Fold.{moves_start, moves_turn}
+use Rattle.runs.proofs.RunLaws.{moves_count, numbers_move, numbers_begin}
 use Rattle.runs.proofs.run_numbers.Goals as goal
 
-pub begin-begun-requires : goal.begin-begun-requires
-begin-begun-requires c = search numbers
+pub loop-i-init : goal.loop-i-init
+loop-i-init c = moves_start _ _ _ _ _ (numbers_begin _ _ _ _ _ c.in_ok-places.ensures)
 
-pub loop-k-init : goal.loop-k-init
-loop-k-init c = numbers_start _ _ _ _ _ _ c.begin-begun.ensures
-
-pub turn_of-requires : goal.turn_of-requires
-turn_of-requires c = search numbers
-
-pub overflow_add-k : goal.overflow_add-k
-overflow_add-k c = search numbers
-
-pub loop-k-smaller : goal.loop-k-smaller
-loop-k-smaller c = search numbers
-
-pub loop-k-preserved : goal.loop-k-preserved
-loop-k-preserved c = search numbers
-
-pub returns : goal.returns
-returns c = numbers_end _ _ _ _ _ _ _ _ c.loop-k.invariant _ (search numbers) c.begin-begun.ensures
+pub loop-i-preserved : goal.loop-i-preserved
+loop-i-preserved c =
+    let less : c.loop-i.i < length (moves_of c.args.numbers.now) = omega (arith, moves_count c.args.numbers.now) in
+    moves_turn _ _ _ _ _ _ _ _ c.loop-i.invariant less _ (numbers_move _ _ c.loop-i-test.true ∙ sym c.move_at.ensures) _ _ c.turn_at.ensures.words
+    c.turn_at.ensures.answer c.turn_at.ensures.keeps

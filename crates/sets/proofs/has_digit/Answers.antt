@@ -1,5 +1,5 @@
 -- `sets::has_digit` meets its contract: one digit by its mask; a word of 64 digits has none from 64 on. Assumes nothing.
-use Rattle.std.proofs.Common.{sym, rules}
+use Rattle.std.proofs.Common.{sym}
 use Rattle.definitions.proofs.Sets.{has_above, has_bit}
 use Rattle.sets.proofs.has_digit.Goals as goal
 

@@ -1,5 +1,5 @@
 -- `sets::set_digit` meets its contract: the digits of `s | (1 << n)`; no number below 64 is n where n is above 63. Assumes nothing.
-use Rattle.std.proofs.Common.{Bool, sym, ap, ◌∙◌, arith, rules}
+use Rattle.std.proofs.Common.{Bool, sym, ap, ◌∙◌, arith}
 use Rattle.definitions.specs.Bounded.{◌or◌, ◌is◌}
 use Rattle.definitions.specs.Sets.{has}
 use Rattle.definitions.proofs.Bounded.{is_iff, false_of}

@@ -1,32 +1,16 @@
 -- `sharing::join_names` meets its contract: what the names passed ask is gathered. Assumes nothing.
-use Rattle.definitions.specs.Estimate.{estimate_of}
-use Rattle.sharing.specs.Shared.{shared_in}
-use Rattle.sharing.proofs.Gather.{Gathering, gathers}
+use Rattle.sharing.proofs.Gather.{gathering_turn, name_in, name_out, names_stop}
 use Rattle.sharing.proofs.join_names.Goals as goal
 
-pub loop-left-init : goal.loop-left-init
-loop-left-init c = search gathers
-
-pub is_subset-requires : goal.is_subset-requires
-is_subset-requires c = search gathers
-
 pub returns-then-is_subset : goal.returns-then-is_subset
-returns-then-is_subset c = search gathers
+returns-then-is_subset c = names_stop _ _ _ _ _ _ _ c.loop-c.invariant _ _ c.requires.all c.is_subset.ensures c.if-is_subset.true
 
-pub lowest-c-requires : goal.lowest-c-requires
-lowest-c-requires c = search gathers
+pub loop-c-preserved-then-intersects : goal.loop-c-preserved-then-intersects
+loop-c-preserved-then-intersects c =
+    gathering_turn _ _ _ _ _ c.loop-c.invariant _ _ _ c.in-Some.ensures.steps
+    (name_in _ _ _ _ _ _ _ c.intersects.ensures c.eps.ensures _ _ c.if-intersects.true c.union-v.ensures c.kap.ensures)
 
-pub join_name-v-requires : goal.join_name-v-requires
-join_name-v-requires c = search gathers
-
-pub without_lowest-left-requires : goal.without_lowest-left-requires
-without_lowest-left-requires c = search gathers
-
-pub loop-left-smaller : goal.loop-left-smaller
-loop-left-smaller c = search gathers
-
-pub loop-left-preserved : goal.loop-left-preserved
-loop-left-preserved c = search gathers
-
-pub returns : goal.returns
-returns c = search gathers
+pub loop-c-preserved : goal.loop-c-preserved
+loop-c-preserved c =
+    gathering_turn _ _ _ _ _ c.loop-c.invariant _ _ _ c.in-Some.ensures.steps
+    (name_out _ _ _ _ _ _ _ c.intersects.ensures c.eps.ensures c.if-intersects.false)

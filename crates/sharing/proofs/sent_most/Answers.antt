@@ -1,29 +1,9 @@
 -- `sharing::sent_most` meets its contract. Assumes nothing.
-use Rattle.sharing.proofs.Gather.{gathered}
-use Rattle.definitions.specs.Estimate.{estimate_of}
-use Rattle.sharing.proofs.Gather.{Meeting}
+use Rattle.sharing.proofs.Gather.{meeting-start, meeting-turn}
 use Rattle.sharing.proofs.sent_most.Goals as goal
 
-pub loop-left-init : goal.loop-left-init
-loop-left-init c = search gathered
+pub loop-a-init : goal.loop-a-init
+loop-a-init c = rw c.into_iter-a-iterator.ensures.into_iter_gives (meeting-start _ _ _ c.ranges.s.fits)
 
-pub lowest-a-requires : goal.lowest-a-requires
-lowest-a-requires c = search gathered
-
-pub kap-requires : goal.kap-requires
-kap-requires c = search gathered
-
-pub intersection-w-requires : goal.intersection-w-requires
-intersection-w-requires c = search gathered
-
-pub without_lowest-left-requires : goal.without_lowest-left-requires
-without_lowest-left-requires c = search gathered
-
-pub loop-left-smaller : goal.loop-left-smaller
-loop-left-smaller c = search gathered
-
-pub loop-left-preserved : goal.loop-left-preserved
-loop-left-preserved c = search gathered
-
-pub returns : goal.returns
-returns c = search gathered
+pub loop-a-preserved : goal.loop-a-preserved
+loop-a-preserved c = meeting-turn _ _ _ _ _ c.loop-a.invariant _ _ _ _ c.in-Some.ensures.steps c.intersection-w.ensures c.kap.ensures

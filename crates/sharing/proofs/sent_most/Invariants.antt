@@ -1,11 +1,7 @@
 -- `sharing::sent_most` meets its contract. Assumes nothing.
-use Rattle.sharing.proofs.Gather.{gathered}
 use Rattle.definitions.specs.Estimate.{estimate_of}
 use Rattle.sharing.proofs.Gather.{Meeting}
 use Rattle.sharing.proofs.sent_most.Given as goal
 
-abbrev pub invariant-loop-left : goal.invariant-loop-left
-invariant-loop-left l = Meeting (estimate_of l.estimate) l.b l.s l.left l.w
-
-abbrev pub decreases-loop-left : goal.decreases-loop-left
-decreases-loop-left l = l.left
+abbrev pub invariant-loop-a : goal.invariant-loop-a
+invariant-loop-a l = Meeting (estimate_of l.estimate) l.b l.s l.a-iterator.0 l.w

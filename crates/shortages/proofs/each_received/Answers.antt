@@ -1,33 +1,7 @@
 -- `shortages::each_received` meets its contract: the members left give the answer. Assumes nothing.
-use Rattle.definitions.specs.Sets.{missing}
-use Rattle.definitions.specs.Estimate.{estimate_of}
-use Rattle.subsets.proofs.Walk.{ShortLeft}
+use Rattle.subsets.proofs.Walk.{short_turn}
 use Rattle.clauses.proofs.Members.{shorts}
 use Rattle.shortages.proofs.each_received.Goals as goal
 
-pub loop-left-init : goal.loop-left-init
-loop-left-init c = search shorts
-
-pub lowest-a-requires : goal.lowest-a-requires
-lowest-a-requires c = search shorts
-
-pub kap-requires : goal.kap-requires
-kap-requires c = search shorts
-
-pub missing-r-requires : goal.missing-r-requires
-missing-r-requires c = search shorts
-
-pub returns-in-Lacks : goal.returns-in-Lacks
-returns-in-Lacks c = search shorts
-
-pub without_lowest-left-requires : goal.without_lowest-left-requires
-without_lowest-left-requires c = search shorts
-
-pub loop-left-smaller : goal.loop-left-smaller
-loop-left-smaller c = search shorts
-
-pub loop-left-preserved : goal.loop-left-preserved
-loop-left-preserved c = search shorts
-
-pub returns : goal.returns
-returns c = search shorts
+pub loop-a-preserved : goal.loop-a-preserved
+loop-a-preserved c = short_turn _ _ _ _ _ c.loop-a.invariant c.in-Some.ensures.steps (search shorts)

@@ -2,11 +2,7 @@
 use Rattle.definitions.specs.Sets.{missing}
 use Rattle.definitions.specs.Estimate.{estimate_of}
 use Rattle.subsets.proofs.Walk.{ShortLeft}
-use Rattle.clauses.proofs.Members.{shorts}
 use Rattle.shortages.proofs.each_sent.Given as goal
 
-abbrev pub invariant-loop-left : goal.invariant-loop-left
-invariant-loop-left l = ShortLeft (λ a. missing l.q ((estimate_of l.estimate).kap l.b a)) l.s l.left
-
-abbrev pub decreases-loop-left : goal.decreases-loop-left
-decreases-loop-left l = l.left
+abbrev pub invariant-loop-a : goal.invariant-loop-a
+invariant-loop-a l = ShortLeft (λ a. missing l.q ((estimate_of l.estimate).kap l.b a)) l.s l.a-iterator.0

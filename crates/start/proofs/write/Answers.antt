@@ -1,43 +1,16 @@
 -- `start::write` meets its contract. Assumes nothing.
-use Prim.Native.Nat.{◌-◌}
-use Rattle.start.proofs.StartLaws.{RecordsWritten, states}
+use Rattle.std.proofs.Common.{rules}
+use Rattle.start.proofs.StartLaws.{records_start, states}
 use Rattle.start.proofs.write.Goals as goal
 
-pub clear-requires : goal.clear-requires
-clear-requires c = search states
-
 pub loop-b-init : goal.loop-b-init
-loop-b-init c = search states
-
-pub overflow_add-next : goal.overflow_add-next
-overflow_add-next c = search states
-
-pub overflow_mul-from : goal.overflow_mul-from
-overflow_mul-from c = search states
-
-pub overflow_add-to : goal.overflow_add-to
-overflow_add-to c = search states
-
-pub offset_bounds-state-from : goal.offset_bounds-state-from
-offset_bounds-state-from c = search states
-
-pub slice_bounds-start_record-count : goal.slice_bounds-start_record-count
-slice_bounds-start_record-count c = search states
-
-pub slice_bounds-start_record-start : goal.slice_bounds-start_record-start
-slice_bounds-start_record-start c = search states
-
-pub slice_bounds-start_record-end : goal.slice_bounds-start_record-end
-slice_bounds-start_record-end c = search states
-
-pub start_record-requires : goal.start_record-requires
-start_record-requires c = search states
-
-pub loop-b-smaller : goal.loop-b-smaller
-loop-b-smaller c = search states
+loop-b-init c = records_start _ _ _ _ c.requires.model c.requires.layout c.requires.long (c.fill.ensures.after (λ y e. e))
 
 pub loop-b-preserved : goal.loop-b-preserved
-loop-b-preserved c = search states
+loop-b-preserved c = search (rules, states)
 
 pub returns : goal.returns
-returns c = search states
+returns c = search (rules, states)
+
+pub start_record-requires-clause-clear : goal.start_record-requires-clause-clear
+start_record-requires-clause-clear c = search (rules, states)

@@ -1,33 +1,16 @@
 -- `start::write_names` meets its contract. Assumes nothing.
-use Rattle.start.proofs.StartLaws.{NamesWritten, names as laws}
+use Rattle.std.proofs.Common.{rules}
+use Rattle.start.proofs.StartLaws.{names as laws, names_turn}
 use Rattle.start.proofs.write_names.Goals as goal
 
-pub loop-left-init : goal.loop-left-init
-loop-left-init c = search laws
+pub loop-i-init : goal.loop-i-init
+loop-i-init c =
+    rw c.into_iter-i-iterator.ensures.into_iter_gives
+    rw c.enumerate-i-items.ensures.source
+    rw c.enumerate-i-items.ensures.count (search (rules, laws))
 
-pub lowest-requires : goal.lowest-requires
-lowest-requires c = search laws
-
-pub stamped-held-requires : goal.stamped-held-requires
-stamped-held-requires c = search laws
-
-pub offset_bounds-words-i : goal.offset_bounds-words-i
-offset_bounds-words-i c = search laws
-
-pub bounds-words-i : goal.bounds-words-i
-bounds-words-i c = search laws
-
-pub without_lowest-left-requires : goal.without_lowest-left-requires
-without_lowest-left-requires c = search laws
-
-pub overflow_add-i : goal.overflow_add-i
-overflow_add-i c = search laws
-
-pub loop-left-smaller : goal.loop-left-smaller
-loop-left-smaller c = search laws
-
-pub loop-left-preserved : goal.loop-left-preserved
-loop-left-preserved c = search laws
-
-pub returns : goal.returns
-returns c = search laws
+pub loop-i-preserved : goal.loop-i-preserved
+loop-i-preserved c =
+    rw c.in-Some.ensures.steps.2
+    rw c.in-Some.ensures.steps.1
+    (names_turn _ _ _ _ c.loop-i.invariant _ _ c.in-Some.ensures.steps.0 _ c.stamped.ensures)

@@ -1,9 +1,7 @@
 -- `start::write_names` meets its contract. Assumes nothing.
-use Rattle.start.proofs.StartLaws.{NamesWritten, names as laws}
+use Rattle.std.specs.Iterator.Adapters.{enumerate_source, enumerate_count}
+use Rattle.start.proofs.StartLaws.{NamesWritten}
 use Rattle.start.proofs.write_names.Given as goal
 
-abbrev pub invariant-loop-left : goal.invariant-loop-left
-invariant-loop-left l = NamesWritten l.names l.left l.i l.words
-
-abbrev pub decreases-loop-left : goal.decreases-loop-left
-decreases-loop-left l = l.left
+abbrev pub invariant-loop-i : goal.invariant-loop-i
+invariant-loop-i l = NamesWritten l.names (enumerate_source l.i-iterator).0 (enumerate_count l.i-iterator) l.words

@@ -1,55 +1,60 @@
 -- `turns::inter` meets its contract. Assumes nothing.
 use native.Mathlib.Omega.{arith}
-use Rattle.turns.proofs.Acts.{inter_box, inter_box2, inter_long, second_long, second_ready, second_live, second_op, inters}
+use Rattle.turns.proofs.Acts.{lent_first, split_back, inter_box, inter_box2, inter_room, inter_room2, sent_ready, sent_live, sent_op, first_ready, first_live, first_op, second_room, second_ready, second_live, second_op, inter_left}
 use Rattle.turns.proofs.inter.Goals as goal
 
 pub record-requires : goal.record-requires
-record-requires c = search inters
+record-requires c = inter_room2 c.requires.ready _ _ _ _ c.requires.made
 
 pub sent-v-requires : goal.sent-v-requires
-sent-v-requires c = search inters
+sent-v-requires c = record {
+  ready = sent_ready c.requires.ready _ _ _ _ c.requires.made _ c.record.ensures;
+  live = sent_live c.requires.ready _ _ _ _ c.requires.made _ c.record.ensures;
+  there = sent_op c.requires.ready _ _ _ _ c.requires.made _ c.record.ensures;
+}
 
-pub overflow_mul-from : goal.overflow_mul-from
-overflow_mul-from c = omega (arith, inter_box c.requires.0 _ _ _ _ c.requires.1)
+pub overflow_mul-b : goal.overflow_mul-b
+overflow_mul-b c = record { fits = omega (arith, inter_box c.requires.ready _ _ _ _ c.requires.made) }
 
-pub overflow_add-to : goal.overflow_add-to
-overflow_add-to c = omega (arith, inter_box c.requires.0 _ _ _ _ c.requires.1)
+pub split_at_mut-first-requires : goal.split_at_mut-first-requires
+split_at_mut-first-requires c = omega (arith, inter_room c.requires.ready _ _ _ _ c.requires.made)
 
-pub offset_bounds-state-from : goal.offset_bounds-state-from
-offset_bounds-state-from c = omega (arith, inter_box c.requires.0 _ _ _ _ c.requires.1)
-
-pub slice_bounds-receive-count : goal.slice_bounds-receive-count
-slice_bounds-receive-count c = search inters
-
-pub slice_bounds-receive-start : goal.slice_bounds-receive-start
-slice_bounds-receive-start c = search inters
-
-pub slice_bounds-receive-end : goal.slice_bounds-receive-end
-slice_bounds-receive-end c = omega (arith, inter_box c.requires.0 _ _ _ _ c.requires.1, inter_long c.requires.0 _ _ _ _ c.requires.1)
+pub first_record-requires : goal.first_record-requires
+first_record-requires c = omega (arith, inter_room c.requires.ready _ _ _ _ c.requires.made, c.split_at_mut-first.ensures.back_len)
 
 pub receive-requires : goal.receive-requires
-receive-requires c = search inters
+receive-requires c =
+    let d = lent_first _ _ _ _ c.split_at_mut-first.ensures.back c.first_record.ensures.value in
+    record {
+      ready = first_ready c.requires.ready _ _ _ _ c.requires.made _ d;
+      live = first_live c.requires.ready _ _ _ _ c.requires.made _ d;
+      there = first_op c.requires.ready _ _ _ _ c.requires.made _ d;
+    }
 
-pub overflow_mul-from2 : goal.overflow_mul-from2
-overflow_mul-from2 c = omega (arith, inter_box2 c.requires.0 _ _ _ _ c.requires.1)
+pub overflow_mul-c : goal.overflow_mul-c
+overflow_mul-c c = record { fits = omega (arith, inter_box2 c.requires.ready _ _ _ _ c.requires.made) }
 
-pub overflow_add-to2 : goal.overflow_add-to2
-overflow_add-to2 c = omega (arith, inter_box2 c.requires.0 _ _ _ _ c.requires.1)
+pub split_at_mut-second-requires : goal.split_at_mut-second-requires
+split_at_mut-second-requires c =
+    omega (arith, second_room c.requires.ready _ _ _ _ c.requires.made _ (lent_first _ _ _ _ c.split_at_mut-first.ensures.back c.first_record.ensures.value) _ c.record.ensures c.sent-v.result.0 c.sent-v.ensures _ _ c.receive.ensures (split_back _ _ _ _ _ c.split_at_mut-first.ensures.front c.split_at_mut-first.ensures.back))
 
-pub offset_bounds-state-from2 : goal.offset_bounds-state-from2
-offset_bounds-state-from2 c = omega (arith, inter_box2 c.requires.0 _ _ _ _ c.requires.1)
-
-pub slice_bounds-onward-count : goal.slice_bounds-onward-count
-slice_bounds-onward-count c = search inters
-
-pub slice_bounds-onward-start : goal.slice_bounds-onward-start
-slice_bounds-onward-start c = search inters
-
-pub slice_bounds-onward-end : goal.slice_bounds-onward-end
-slice_bounds-onward-end c = omega (arith, inter_box2 c.requires.0 _ _ _ _ c.requires.1, second_long c.requires.0 _ _ _ _ c.requires.1 _ c.record.ensures c.sent-v.result.0 c.sent-v.ensures _ c.receive.ensures)
+pub first_record-requires-2 : goal.first_record-requires-2
+first_record-requires-2 c =
+    omega (arith, second_room c.requires.ready _ _ _ _ c.requires.made _ (lent_first _ _ _ _ c.split_at_mut-first.ensures.back c.first_record.ensures.value) _ c.record.ensures c.sent-v.result.0 c.sent-v.ensures _ _ c.receive.ensures (split_back _ _ _ _ _ c.split_at_mut-first.ensures.front c.split_at_mut-first.ensures.back), c.split_at_mut-second.ensures.back_len)
 
 pub onward-requires : goal.onward-requires
-onward-requires c = (second_ready c.requires.0 _ _ _ _ c.requires.1 _ c.record.ensures c.sent-v.result.0 c.sent-v.ensures _ c.receive.ensures, second_live c.requires.0 _ _ _ _ c.requires.1 _ c.record.ensures c.sent-v.result.0 c.sent-v.ensures _ c.receive.ensures, second_op c.requires.0 _ _ _ _ c.requires.1 _ c.record.ensures c.sent-v.result.0 c.sent-v.ensures _ c.receive.ensures)
+onward-requires c =
+    let d = lent_first _ _ _ _ c.split_at_mut-first.ensures.back c.first_record.ensures.value in
+    let e = lent_first _ _ _ _ c.split_at_mut-second.ensures.back c.first_record-2.ensures.value in
+    record {
+      ready = second_ready c.requires.ready _ _ _ _ c.requires.made _ d _ c.record.ensures c.sent-v.result.0 c.sent-v.ensures _ _ c.receive.ensures (split_back _ _ _ _ _ c.split_at_mut-first.ensures.front c.split_at_mut-first.ensures.back) _ e;
+      live = second_live c.requires.ready _ _ _ _ c.requires.made _ d _ c.record.ensures c.sent-v.result.0 c.sent-v.ensures _ _ c.receive.ensures (split_back _ _ _ _ _ c.split_at_mut-first.ensures.front c.split_at_mut-first.ensures.back) _ e;
+      there = second_op c.requires.ready _ _ _ _ c.requires.made _ d _ c.record.ensures c.sent-v.result.0 c.sent-v.ensures _ _ c.receive.ensures (split_back _ _ _ _ _ c.split_at_mut-first.ensures.front c.split_at_mut-first.ensures.back) _ e;
+    }
 
 pub returns : goal.returns
-returns c = search inters
+returns c =
+    let d = lent_first _ _ _ _ c.split_at_mut-first.ensures.back c.first_record.ensures.value in
+    let e = lent_first _ _ _ _ c.split_at_mut-second.ensures.back c.first_record-2.ensures.value in
+    inter_left c.requires.ready _ _ _ _ c.requires.made _ d _ c.record.ensures c.sent-v.result.0 c.sent-v.ensures _ _ c.receive.ensures (split_back _ _ _ _ _ c.split_at_mut-first.ensures.front c.split_at_mut-first.ensures.back) _ e _ _ c.onward.ensures
+    (split_back _ _ _ _ _ c.split_at_mut-second.ensures.front c.split_at_mut-second.ensures.back)

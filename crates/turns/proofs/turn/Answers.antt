@@ -1,23 +1,12 @@
 -- `turns::turn` meets its contract. Assumes nothing.
-use Rattle.turns.proofs.Acts.{turn-zero, turn_words, turn_keeps, turn-refused, turns}
+use Rattle.turns.proofs.Acts.{turn-made, turn_keeps, kind_known}
 use Rattle.turns.proofs.turn.Goals as goal
 
-pub allowed-n-requires : goal.allowed-n-requires
-allowed-n-requires c = search turns
+pub unreachable-requires : goal.unreachable-requires
+unreachable-requires c = kind_known _ _ _ (turn-made c.requires _ c.in_ok-allowed.ensures) c.in_default.ensures
 
-pub make-requires : goal.make-requires
-make-requires c = search turns
+pub make-requires-clause-made : goal.make-requires-clause-made
+make-requires-clause-made c = rw c.in-Some.ensures (turn-made c.requires _ c.in_ok-allowed.ensures)
 
-pub returns-then-n-eq0 : goal.returns-then-n-eq0
-returns-then-n-eq0 c = record {
-  answer = turn-zero c.requires _ _ _ _ _ _ c.allowed-n.ensures _ c.make.ensures;
-  words = turn_words c.requires _ _ _ _ _ _ c.allowed-n.ensures _ c.make.ensures;
-  keeps = turn_keeps c.requires _ _ _ _ _ _ c.allowed-n.ensures _ c.make.ensures;
-}
-
-pub returns : goal.returns
-returns c = record {
-  answer = c.allowed-n.ensures;
-  words = turn-refused c.requires _ _ _ _ _ _ c.allowed-n.ensures c.if-n-eq0.false;
-  keeps = c.requires;
-}
+pub returns-clause-keeps : goal.returns-clause-keeps
+returns-clause-keeps c = turn_keeps c.requires _ _ c.make.ensures

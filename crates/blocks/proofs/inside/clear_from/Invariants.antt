@@ -1,12 +1,7 @@
 -- `blocks::inside::clear_from` meets its contract: the data words passed are joined. Assumes nothing.
-use Rattle.std.proofs.Common.{◌-◌}
 use Rattle.definitions.specs.Words.{block_of, data_word}
 use Rattle.definitions.proofs.Loops.{ZeroRun}
-use Rattle.blocks.proofs.Blocks.{blocks}
 use Rattle.blocks.proofs.inside.clear_from.Given as goal
 
 abbrev pub invariant-loop-i : goal.invariant-loop-i
 invariant-loop-i l = ZeroRun (data_word (block_of l.image l.k)) l.from 62 l.i l.w
-
-abbrev pub decreases-loop-i : goal.decreases-loop-i
-decreases-loop-i l = 62 - l.i

@@ -2,17 +2,8 @@
 use Rattle.deciding.proofs.Rules.{lines}
 use Rattle.deciding.proofs.inside.at_line.Goals as goal
 
-pub threads-requires : goal.threads-requires
-threads-requires c = search lines
+pub returns-then-thread_line-op : goal.returns-then-thread_line-op
+returns-then-thread_line-op c = search lines
 
-pub returns-then-threads-t : goal.returns-then-threads-t
-returns-then-threads-t c = search lines
-
-pub thread_line-l-requires : goal.thread_line-l-requires
-thread_line-l-requires c = search lines
-
-pub returns-then-l-op : goal.returns-then-l-op
-returns-then-l-op c = search lines
-
-pub returns-else-l-op : goal.returns-else-l-op
-returns-else-l-op c = search lines
+pub returns-else-thread_line-op : goal.returns-else-thread_line-op
+returns-else-thread_line-op c = search lines

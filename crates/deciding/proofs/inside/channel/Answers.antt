@@ -2,29 +2,20 @@
 use Rattle.deciding.proofs.Rules.{channels}
 use Rattle.deciding.proofs.inside.channel.Goals as goal
 
-pub thread_line-l-requires : goal.thread_line-l-requires
-thread_line-l-requires c = search channels
+pub returns-then-l : goal.returns-then-l
+returns-then-l c = search channels
 
-pub returns-then-l-ne5 : goal.returns-then-l-ne5
-returns-then-l-ne5 c = search channels
+pub returns-then-k : goal.returns-then-k
+returns-then-k c = search channels
 
-pub thread_line-k-requires : goal.thread_line-k-requires
-thread_line-k-requires c = search channels
+pub value-requires-clause-slot : goal.value-requires-clause-slot
+value-requires-clause-slot c = search channels
 
-pub returns-then-k-ne4 : goal.returns-then-k-ne4
-returns-then-k-ne4 c = search channels
+pub value-requires-clause-listed : goal.value-requires-clause-listed
+value-requires-clause-listed c = search channels
 
-pub value-v-requires : goal.value-v-requires
-value-v-requires c = search channels
+pub value-requires-2-clause-slot : goal.value-requires-2-clause-slot
+value-requires-2-clause-slot c = search channels
 
-pub value-w-requires : goal.value-w-requires
-value-w-requires c = search channels
-
-pub same-requires : goal.same-requires
-same-requires c = search channels
-
-pub returns-then-same : goal.returns-then-same
-returns-then-same c = search channels
-
-pub returns-else-same : goal.returns-else-same
-returns-else-same c = search channels
+pub value-requires-2-clause-listed : goal.value-requires-2-clause-listed
+value-requires-2-clause-listed c = search channels

@@ -1,29 +1,13 @@
 -- `first_broken::boxes::boxes` meets its contract: the boxes passed break nothing. Assumes nothing.
-use Prim.Native.Nat.{◌-◌}
-use Rattle.definitions.specs.Image.{model_of}
-use Rattle.definitions.specs.Estimate.{estimate_of}
-use Rattle.definitions.specs.Clauses.{box_broken}
-use Rattle.definitions.proofs.Loops.{Passed}
-use Rattle.first_broken.proofs.Steps.{boxes}
+use Rattle.std.proofs.lemmas.Result.{err_from_is_err_and}
+use Rattle.definitions.proofs.Loops.{passed_start, passed_stop}
+use Rattle.first_broken.proofs.Steps.{firsts}
 use Rattle.first_broken.proofs.boxes.boxes.Goals as goal
 
 pub loop-b-init : goal.loop-b-init
-loop-b-init c = search boxes
+loop-b-init c = passed_start _ _
 
-pub one_box-f-requires : goal.one_box-f-requires
-one_box-f-requires c = search boxes
-
-pub returns-in-First : goal.returns-in-First
-returns-in-First c = search boxes
-
-pub overflow_add-b : goal.overflow_add-b
-overflow_add-b c = search boxes
-
-pub loop-b-smaller : goal.loop-b-smaller
-loop-b-smaller c = search boxes
-
-pub loop-b-preserved : goal.loop-b-preserved
-loop-b-preserved c = search boxes
-
-pub returns : goal.returns
-returns c = search boxes
+pub returns-in_err-one_box : goal.returns-in_err-one_box
+returns-in_err-one_box c =
+    let p = err_from_is_err_and c.from_residual.result c.from_residual.ensures.1 in
+    rw (p.1, p.2) (passed_stop _ _ _ _ c.loop-b.invariant (search firsts) c.in_err-one_box.ensures)

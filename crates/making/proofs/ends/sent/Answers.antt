@@ -2,11 +2,11 @@
 use Rattle.making.proofs.Lefts.{ends}
 use Rattle.making.proofs.ends.sent.Goals as goal
 
-pub thread_line-l-requires : goal.thread_line-l-requires
-thread_line-l-requires c = search ends
+pub value-requires-clause-slot : goal.value-requires-clause-slot
+value-requires-clause-slot c = search ends
 
-pub value-requires : goal.value-requires
-value-requires c = search ends
+pub value-requires-clause-listed : goal.value-requires-clause-listed
+value-requires-clause-listed c = search ends
 
 pub returns : goal.returns
 returns c = search ends

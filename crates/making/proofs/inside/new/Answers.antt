@@ -2,26 +2,26 @@
 use Rattle.making.proofs.Lefts.{news}
 use Rattle.making.proofs.inside.new.Goals as goal
 
-pub thread_line-l-requires : goal.thread_line-l-requires
-thread_line-l-requires c = search news
-
-pub stamp-s-requires : goal.stamp-s-requires
-stamp-s-requires c = search news
+pub thread_line-l-requires-clause-live : goal.thread_line-l-requires-clause-live
+thread_line-l-requires-clause-live c = search news
 
 pub overflow_add-s : goal.overflow_add-s
 overflow_add-s c = search news
 
-pub set_stamp-requires : goal.set_stamp-requires
-set_stamp-requires c = search news
+pub stamped-requires-clause-listed : goal.stamped-requires-clause-listed
+stamped-requires-clause-listed c = search news
 
-pub stamped-requires : goal.stamped-requires
-stamped-requires c = search news
+pub stamped-requires-clause-in_range : goal.stamped-requires-clause-in_range
+stamped-requires-clause-in_range c = search news
 
-pub bind-requires : goal.bind-requires
-bind-requires c = search news
+pub bind-requires-clause-slot : goal.bind-requires-clause-slot
+bind-requires-clause-slot c = search news
 
-pub narrow-requires : goal.narrow-requires
-narrow-requires c = search news
+pub bind-requires-clause-listed : goal.bind-requires-clause-listed
+bind-requires-clause-listed c = search news
+
+pub overflow_cast-l : goal.overflow_cast-l
+overflow_cast-l c = search news
 
 pub set_line-requires : goal.set_line-requires
 set_line-requires c = search news

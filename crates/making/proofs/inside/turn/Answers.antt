@@ -2,23 +2,26 @@
 use Rattle.making.proofs.Lefts.{turns}
 use Rattle.making.proofs.inside.turn.Goals as goal
 
-pub thread_line-l-requires : goal.thread_line-l-requires
-thread_line-l-requires c = search turns
+pub thread_line-l-requires-clause-live : goal.thread_line-l-requires-clause-live
+thread_line-l-requires-clause-live c = search turns
 
-pub value-requires : goal.value-requires
-value-requires c = search turns
+pub value-requires-clause-slot : goal.value-requires-clause-slot
+value-requires-clause-slot c = search turns
 
-pub site_with-i-requires : goal.site_with-i-requires
-site_with-i-requires c = search turns
+pub value-requires-clause-listed : goal.value-requires-clause-listed
+value-requires-clause-listed c = search turns
 
-pub narrow-requires : goal.narrow-requires
-narrow-requires c = search turns
+pub site_with-requires : goal.site_with-requires
+site_with-requires c = search turns
+
+pub unwrap-i-requires : goal.unwrap-i-requires
+unwrap-i-requires c = search turns
+
+pub overflow_cast-l : goal.overflow_cast-l
+overflow_cast-l c = search turns
 
 pub set_line-requires : goal.set_line-requires
 set_line-requires c = search turns
-
-pub overflow_sub-before : goal.overflow_sub-before
-overflow_sub-before c = search turns
 
 pub set_flag-requires : goal.set_flag-requires
 set_flag-requires c = search turns

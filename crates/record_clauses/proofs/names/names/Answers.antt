@@ -1,19 +1,13 @@
 -- `record_clauses::names::names` meets its contract: the first free name that its own set lacks. Assumes nothing.
+use Rattle.std.proofs.Common.{◌≡◌, rules}
 use Rattle.definitions.specs.Estimate.{estimate_of}
-use Rattle.record_clauses.proofs.Steps.{names_yes, names_lacks, clauses-1}
+use Rattle.subsets.specs.Within.{within_in}
+use Rattle.record_clauses.specs.Found.{found_in}
+use Rattle.record_clauses.proofs.Steps.{own_broken, names_found}
 use Rattle.record_clauses.proofs.names.names.Goals as goal
 
-pub own_missing-w-requires : goal.own_missing-w-requires
-own_missing-w-requires c = search clauses-1
+same : (c : goal.After-map_err) → found_in c.map_err.result ≡ own_broken (within_in c.own_missing.result)
+same c = search rules
 
-pub enum_known-w : goal.enum_known-w
-enum_known-w c = search clauses-1
-
-pub overflow_cast-place : goal.overflow_cast-place
-overflow_cast-place c = search clauses-1
-
-pub returns-in-Yes : goal.returns-in-Yes
-returns-in-Yes c = names_yes (estimate_of _) _ _ c.own_missing-w.ensures c.in-Yes.is
-
-pub returns-in-Lacks : goal.returns-in-Lacks
-returns-in-Lacks c = names_lacks (estimate_of _) _ _ c.own_missing-w.ensures c.in-Lacks.n c.in-Lacks.is
+pub returns : goal.returns
+returns c = names_found (estimate_of _) _ _ _ c.own_missing.ensures (same c)

@@ -1,44 +1,14 @@
 -- `state::edits::remove_thread` meets its contract. Assumes nothing.
+use mathlib.Core.Path.{ap, ◌∙◌}
+use mathlib.Core.List.{List}
+use Prim.Native.Nat.{ℕ, ◌-◌}
 use native.Mathlib.Omega.{arith}
-use lib.ListN.{length-set}
-use Rattle.state.proofs.Stores.{stores}
+use lib.ListN.{set}
+use Rattle.state.proofs.Stores.{cleared_part, removed}
 use Rattle.state.proofs.edits.remove_thread.Goals as goal
 
-pub threads-last-requires : goal.threads-last-requires
-threads-last-requires c = search stores
-
-pub overflow_sub-last : goal.overflow_sub-last
-overflow_sub-last c = search stores
-
-pub overflow_mul-end : goal.overflow_mul-end
-overflow_mul-end c = search stores
-
-pub overflow_add-end : goal.overflow_add-end
-overflow_add-end c = search stores
-
-pub overflow_mul-t : goal.overflow_mul-t
-overflow_mul-t c = search stores
-
-pub overflow_add-t : goal.overflow_add-t
-overflow_add-t c = search stores
-
-pub move_down-requires : goal.move_down-requires
-move_down-requires c = search stores
-
-pub overflow_add-end-2 : goal.overflow_add-end-2
-overflow_add-end-2 c = search stores
-
-pub clear_words-requires : goal.clear_words-requires
-clear_words-requires c = search stores
-
-pub overflow_cast-r : goal.overflow_cast-r
-overflow_cast-r c = search stores
-
-pub bounds-r-1 : goal.bounds-r-1
-bounds-r-1 c = search stores
-
-pub shape_of-r : goal.shape_of-r
-shape_of-r c = simp length-set (omega arith)
-
 pub returns : goal.returns
-returns c = search stores
+returns c =
+    let by = c.copy_within.ensures.by_index in
+    ap (λ (x : List ℕ). set x 1 (c.threads-last.result - 1)) (cleared_part _ _ _ (omega (arith, c.copy_within.ensures.len)) (c.fill.ensures.after (λ y e. e)))
+    ∙ removed _ _ _ _ _ (omega arith) c.requires.dead c.requires.live c.threads-last.ensures (omega arith) c.copy_within.ensures.len by.0 by.1 by.2

@@ -1,8 +1,0 @@
--- `estimate::shown` meets its contract: the word stands in its block. Assumes nothing.
-use Rattle.definitions.specs.Estimate.{estimate_of, eps_block}
-use borrow.Author.Rules.{rules}
-use Rattle.estimate.proofs.shown.Goals as goal
-
-pub returns : goal.returns
-unfolding estimate_of eps_block
-returns c = search rules

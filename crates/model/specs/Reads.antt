@@ -1,0 +1,12 @@
+-- What a model image's reading says. Assumes nothing.
+use Rattle.std.specs.Prelude.{◌≡◌, List, ℕ}
+use Rattle.std.proofs.Math.Option.{none}
+use Rattle.definitions.specs.Image.{model_of}
+use Rattle.definitions.specs.ReadModel.{model_fault}
+use Rattle.layouts.specs.declared.Layout.{Layout}
+use Rattle.layouts.specs.LayoutOf.{LayoutOf}
+
+-- what the walk over the records tells where it says all right: nothing is refused, and the layout is right
+pub record LayoutTold (image : List ℕ) (l : Layout) : Type 0 where
+  pub model : model_fault (model_of image) ≡ none
+  pub layout : LayoutOf image l

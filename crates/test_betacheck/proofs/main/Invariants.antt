@@ -1,9 +1,0 @@
--- Ten pairs.
-use Rattle.std.proofs.Common.{◌-◌, ◌≤◌}
-use Rattle.test_betacheck.proofs.main.Given as goal
-
-abbrev pub invariant-loop-i : goal.invariant-loop-i
-invariant-loop-i l = l.i ≤ 10
-
-abbrev pub decreases-loop-i : goal.decreases-loop-i
-decreases-loop-i l = 10 - l.i

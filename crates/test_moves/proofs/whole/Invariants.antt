@@ -1,9 +1,0 @@
--- Each answer.
-use Rattle.std.proofs.Common.{◌-◌, ◌≤◌, length}
-use Rattle.test_moves.proofs.whole.Given as goal
-
-abbrev pub invariant-loop-i : goal.invariant-loop-i
-invariant-loop-i g l = l.i ≤ length l.answers
-
-abbrev pub decreases-loop-i : goal.decreases-loop-i
-decreases-loop-i g l = length l.answers - l.i
