@@ -22,7 +22,7 @@ use Rattle.analysis.specs.declared.NotAccepted.TheVariants.{RefusedModel, Refuse
 use Rattle.analysis.specs.Answers.{not_accepted_in}
 use Rattle.layouts.specs.declared.Layout.{Layout}
 use Rattle.layouts.specs.LayoutOf.{LayoutOf}
-use Rattle.clauses.specs.Known.{EstimateOfNames}
+use Rattle.estimate.specs.Known.{EstimateOfNames}
 use Rattle.first_broken.specs.Known.{Unrefused}
 use Rattle.first_broken.proofs.Facts.{names_boxes}
 
@@ -106,14 +106,16 @@ module _ (model estimate : List ℕ) (n boxes : ℕ) (h : boxes ≡ boxes_of mod
       ap shut.is_shut_off (q ∙ ap (λ (c : ℕ). shut.shut_off (estimate_of estimate) c n) h)
       ∙ sym (is_below true (true_of (n below boxes) ((below_iff n boxes).1 k)))
 
-pub layout_names : (model estimate : List ℕ) (l : Layout) → LayoutOf model l → Unrefused model estimate → EstimateOfNames estimate l.boxes
-layout_names model estimate l h ready = names_boxes model estimate ready l.boxes h.frame.boxes
+-- an estimate that is read by the counts of a model's layout
+pub read_names : (model estimate : List ℕ) (l : Layout) → LayoutOf model l → read_model model ≡ none → read_estimate l.names l.boxes estimate ≡ none
+    → EstimateOfNames estimate l.boxes
+read_names model estimate l h m e = names_boxes model estimate (both_unrefused model estimate l h m e) l.boxes h.frame.boxes
 
 pub layout_boxes : (model : List ℕ) (l : Layout) → LayoutOf model l → l.boxes ≡ boxes_of model
 layout_boxes model l h = h.frame.boxes
 
-pub ruleset verdicts = (rules, model_refused, estimate_refused, both_unrefused, both_read, refused_alike, unrefused_check)
+pub ruleset verdicts = (rules, model_refused, estimate_refused, both_unrefused, both_read, read_names, refused_alike, unrefused_check)
 
-pub ruleset box_replies = (rules, reply_nobody, reply_is)
+pub ruleset box_replies = (rules, layout_boxes, reply_nobody, reply_is)
 
-pub ruleset replies = (rules, reply_as, reply_accepted, layout_names, layout_boxes)
+pub ruleset replies = (rules, reply_as, reply_accepted)

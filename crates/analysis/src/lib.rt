@@ -1,16 +1,14 @@
 #![tactic(auto)]
-// The checker. No call asks anything of its arguments: any bytes, any box.
+// The checker. No call of this file asks anything of its arguments: any bytes, any box.
+// A refusal becomes a NotAccepted by a match: what `map_err` says of a constructor is not found by the proof.
 ghost use Rattle.std.specs.Prelude.{◌≡◌, IfOk};
-ghost use Rattle.definitions.specs.Image.{boxes_of};
 ghost use Rattle.definitions.specs.Clauses as clauses;
 ghost use Rattle.definitions.specs.ShutOff as shut;
-ghost use Rattle.layouts.specs.LayoutOf.{LayoutOf};
-ghost use Rattle.clauses.specs.Known.{EstimateOfNames};
-ghost use Rattle.first_broken.specs.Known.{Unrefused};
 ghost use Rattle.analysis.specs.Answers.{verdict_in, reply_in};
 ghost use Rattle.analysis.specs.Places.{RefusedStands};
 
-use layouts::Layout;
+use estimate::Estimate;
+use first_broken::Both;
 use record_clauses::Broken;
 use refusals::Refusal;
 
@@ -31,33 +29,40 @@ pub enum NoReply {
     Nobody,
 }
 
-// The model's layout, where neither image is refused. No clause is tried.
+// Both images, where neither is refused. No clause is tried.
 #[tactic(auto, using(crate::proofs::Replies::verdicts))]
-fn layout_read(model: &[u8], estimate: &[u8]) -> Result<Layout, NotAccepted>
+fn both_read<'m, 'e>(model: &'m [u8], estimate: &'e [u8]) -> Result<Both<'m, 'e>, NotAccepted>
     ensures verdict { verdict_in result ≡ clauses.read_both model.now estimate.now }
-    ensures unrefused { IfOk result (λ l. Unrefused model.now estimate.now) }
-    ensures layout { IfOk result (λ l. LayoutOf model.now l) }
+    ensures model { IfOk result (λ b. b.model.image.now ≡ model.now) }
+    ensures estimate { IfOk result (λ b. b.estimate.image.now ≡ estimate.now) }
 {
-    let layout = match model::read(model) {
-        Ok(layout) => layout,
+    let model = match model::read(model) {
+        Ok(model) => model,
         Err(r) => return Err(NotAccepted::RefusedModel(r)),
     };
-    match estimate::read(estimate, layout.names, layout.boxes) {
-        Ok(()) => Ok(layout),
+    let boxes = model.layout.boxes;
+    match estimate::read(estimate, model.layout.names, boxes) {
+        Ok(()) => Ok(Both {
+            model,
+            estimate: Estimate {
+                image: estimate,
+                boxes,
+            },
+        }),
         Err(r) => Err(NotAccepted::RefusedEstimate(r)),
     }
 }
 
-// The model's layout, where neither image is refused and no clause is broken.
+// Both images, where neither is refused and no clause is broken.
 #[tactic(auto, using(crate::proofs::Replies::verdicts))]
-fn layout_accepted(model: &[u8], estimate: &[u8]) -> Result<Layout, NotAccepted>
+fn both_accepted<'m, 'e>(model: &'m [u8], estimate: &'e [u8]) -> Result<Both<'m, 'e>, NotAccepted>
     ensures verdict { verdict_in result ≡ clauses.check model.now estimate.now }
-    ensures unrefused { IfOk result (λ l. Unrefused model.now estimate.now) }
-    ensures layout { IfOk result (λ l. LayoutOf model.now l) }
+    ensures model { IfOk result (λ b. b.model.image.now ≡ model.now) }
+    ensures estimate { IfOk result (λ b. b.estimate.image.now ≡ estimate.now) }
 {
-    let layout = layout_read(model, estimate)?;
-    match first_broken::find(model, estimate, layout) {
-        Ok(()) => Ok(layout),
+    let both = both_read(model, estimate)?;
+    match first_broken::find(&both) {
+        Ok(()) => Ok(both),
         Err(x) => Err(NotAccepted::Breaks(x)),
     }
 }
@@ -67,7 +72,7 @@ fn layout_accepted(model: &[u8], estimate: &[u8]) -> Result<Layout, NotAccepted>
 pub fn check(model: &[u8], estimate: &[u8]) -> Result<(), NotAccepted>
     ensures { verdict_in result ≡ clauses.check model.now estimate.now }
 {
-    layout_accepted(model, estimate)?;
+    both_accepted(model, estimate)?;
     Ok(())
 }
 
@@ -76,21 +81,19 @@ pub fn check(model: &[u8], estimate: &[u8]) -> Result<(), NotAccepted>
 pub fn read_estimate(model: &[u8], estimate: &[u8]) -> Result<(), NotAccepted>
     ensures { verdict_in result ≡ clauses.read_both model.now estimate.now }
 {
-    layout_read(model, estimate)?;
+    both_read(model, estimate)?;
     Ok(())
 }
 
-// Whether box h of so many is shut off, where the estimate is accepted.
+// Whether box h is shut off, where the estimate is accepted.
 #[tactic(auto, using(crate::proofs::Replies::box_replies))]
-fn shut_off_in(model: &[u8], estimate: &[u8], boxes: usize, h: usize) -> Result<bool, NoReply>
-    requires known { EstimateOfNames estimate.now boxes }
-    requires boxes { boxes ≡ boxes_of model.now }
-    ensures { reply_in result ≡ shut.box_reply model.now estimate.now h }
+fn shut_off_in(both: &Both<'_, '_>, h: usize) -> Result<bool, NoReply>
+    ensures { reply_in result ≡ shut.box_reply both.now.model.image.now both.now.estimate.image.now h }
 {
-    if boxes <= h {
+    if both.estimate.boxes <= h {
         return Err(NoReply::Nobody);
     }
-    Ok(links::shut_off(estimate, boxes, h))
+    Ok(links::shut_off(both.estimate, h))
 }
 
 // Whether box h is shut off.
@@ -98,13 +101,14 @@ fn shut_off_in(model: &[u8], estimate: &[u8], boxes: usize, h: usize) -> Result<
 pub fn shut_off(model: &[u8], estimate: &[u8], h: u32) -> Result<bool, NoReply>
     ensures { reply_in result ≡ shut.question model.now estimate.now h }
 {
-    match layout_accepted(model, estimate) {
-        Ok(layout) => shut_off_in(model, estimate, layout.boxes, h as usize),
+    match both_accepted(model, estimate) {
+        Ok(both) => shut_off_in(&both, h as usize),
         Err(e) => Err(NoReply::NotAccepted(e)),
     }
 }
 
 // The refused block, where both images have one lifetime.
+#[tactic(auto, using(crate::proofs::Refused::parts))]
 fn refused_part<'a>(model: &'a [u8], estimate: &'a [u8]) -> &'a [u8]
     ensures { (result.now ≡ shut.refused_block model.now estimate.now) × RefusedStands model.entry estimate.entry (clauses.read_both model.now estimate.now) result }
 {

@@ -1,4 +1,5 @@
 // The refused block, as a part of the image that it stands in.
+// Bounds of indices and counts stand in the clauses: a type for each bound would be taken apart at every use.
 ghost use Rattle.std.specs.Prelude.{◌≡◌, [], ◌+◌, ◌*◌, ◌≤◌, length};
 ghost use Rattle.definitions.specs.Words.{block_of};
 ghost use Rattle.definitions.specs.Answer.{refusal};
@@ -8,6 +9,7 @@ ghost use Rattle.analysis.specs.Known.{BlockThere, RefusedThere};
 ghost use Rattle.analysis.specs.Places.{At, Stands, RefusedStands};
 
 use crate::NotAccepted;
+use refusals::Rule;
 
 fn nothing<'a>(image: &'a [u8]) -> &'a [u8]
     ensures { (result.now ≡ []) × At result image.entry 0 }
@@ -15,7 +17,8 @@ fn nothing<'a>(image: &'a [u8]) -> &'a [u8]
     &image[0..0]
 }
 
-// Block k, which is there.
+// Block k, which is there. A slice, since its contract says where the bytes stand in the image.
+#[tactic(auto, using(crate::proofs::Refused::blocks))]
 fn whole<'a>(image: &'a [u8], k: usize) -> &'a [u8]
     requires { 512 * (k + 1) ≤ length image.now }
     ensures { (result.now ≡ block_of image.now k) × At result image.entry (512 * k) }
@@ -25,15 +28,13 @@ fn whole<'a>(image: &'a [u8], k: usize) -> &'a [u8]
     &image[start..end]
 }
 
-// The block of a refusal, by its number. Only 2 to 5 have one.
+// The block of a refusal, by its number. Only Check to Stray have one.
+#[tactic(auto, using(crate::proofs::Refused::blocks))]
 fn refused<'a>(model: &'a [u8], image: &'a [u8], number: u8, k: usize) -> &'a [u8]
     requires { BlockThere image.now number k }
     ensures { (result.now ≡ shut.refused_part image.now (refusal number k 0)) × Stands model.entry image.entry result k }
 {
-    if number < 2 {
-        return nothing(model);
-    }
-    if 5 < number {
+    if number < Rule::Check as u8 || (Rule::Stray as u8) < number {
         return nothing(model);
     }
     whole(image, k)

@@ -13,8 +13,7 @@ use Rattle.definitions.specs.Words.{block_of, number_of, kind_of_block, box_of, 
 use Rattle.definitions.specs.Check.{check_of, stored_check}
 use Rattle.definitions.specs.Answer.{Refusal, refusal}
 use Rattle.definitions.specs.ReadModel.{block_fault, clear_from, head_counts, head_fault, sites_fault, lines_fault, left_over_fault}
-use Rattle.definitions.proofs.Bounded.{tests, below_iff, upto_iff, true_of, false_of, of_true, not-false, same_test, else_assoc, left_none}
-use Rattle.definitions.proofs.Faults.{reached_iff}
+use Rattle.definitions.proofs.Bounded.{tests, below_iff, upto_iff, true_of, false_of, of_true, not-false, same_test, else_assoc}
 use Rattle.refusals.proofs.Answers.{answers}
 use Rattle.block_faults.specs.BlockFaults.{heading_fault, counts_fault, kinds_fit}
 
@@ -34,11 +33,6 @@ below-turned m n =
 pub there : (image : List ℕ) (k : ℕ) (t : Bool) → t ≡ (512 * (k + 1) upto length image) → t ≡ true → 512 * (k + 1) ≤ length image
 there image k t e q = (upto_iff (512 * (k + 1)) (length image)).0 (of_true (sym e ∙ q))
 
--- a test that finds no fault
-pub met : (t : Bool) (r : Refusal) → none ≡ some_if (not t) r → t ≡ true
-met true r e = refl
-met false r e = cc
-
 -- ---- 1, 2, 3
 
 pub heading_order : (image : List ℕ) (k asked box : ℕ) → heading_fault image k asked box
@@ -48,11 +42,6 @@ pub heading_order : (image : List ℕ) (k asked box : ℕ) → heading_fault ima
 unfolding heading_fault ◌is◌ ◌isnt◌
 heading_order image k asked box = rw (below-turned (length image) (512 * (k + 1))) refl
 
--- a block without these is there
-pub heading_there : (image : List ℕ) (k asked box : ℕ) → none ≡ heading_fault image k asked box → 512 * (k + 1) ≤ length image
-unfolding heading_fault
-heading_there image k asked box e = (reached_iff (length image) (512 * (k + 1)) (refusal 1 k 0)).0 (left_none _ _ (sym e))
-
 -- ---- 4, 5
 
 either_not : (s t : Bool) → (not s || not t) ≡ not (s and t)
@@ -60,14 +49,17 @@ unfolding ◌and◌
 either_not true t = refl
 either_not false t = refl
 
-pub counts_order : (image : List ℕ) (k n least most : ℕ) → counts_fault image k n (least upto n and n upto most)
-    ≡ or_else (some_if (ltb n least || ltb most n) (refusal 4 k 0)) (some_if (not (clear_from (2 * n) (block_of image k))) (refusal 5 k 0))
+pub counts_order : (block : List ℕ) (k least most : ℕ) → counts_fault block k (least upto count_of block and count_of block upto most)
+    ≡ or_else (some_if (ltb (count_of block) least || ltb most (count_of block)) (refusal 4 k 0)) (some_if (not (clear_from (2 * count_of block) block)) (refusal 5 k 0))
 unfolding counts_fault ◌below◌
-counts_order image k n least most =
-    ap (λ (t : Bool). or_else (some_if t (refusal 4 k 0)) (some_if (not (clear_from (2 * n) (block_of image k))) (refusal 5 k 0))) turned
+counts_order block k least most =
+    ap (λ (t : Bool). or_else (some_if t (refusal 4 k 0)) (some_if (not (clear_from (2 * count_of block) block)) (refusal 5 k 0))) turned
   where
-    turned : not (least upto n and n upto most) ≡ (ltb n least || ltb most n)
-    turned = sym (ap₂ (λ (s t : Bool). s || t) (below-turned n least) (below-turned most n) ∙ either_not (least upto n) (n upto most))
+    turned : not (least upto count_of block and count_of block upto most) ≡ (ltb (count_of block) least || ltb most (count_of block))
+    turned =
+        sym
+        (ap₂ (λ (s t : Bool). s || t) (below-turned (count_of block) least) (below-turned most (count_of block))
+        ∙ either_not (least upto count_of block) (count_of block upto most))
 
 block_parts : (image : List ℕ) (k asked b : ℕ) (counts clear : List ℕ → Bool) → block_fault image k asked b counts clear
     ≡ or_else (heading_fault image k asked b) (or_else (some_if (not (counts (block_of image k))) (refusal 4 k 0)) (some_if (not (clear (block_of image k))) (refusal 5 k 0)))
@@ -80,7 +72,7 @@ block_parts image k asked b counts clear =
 
 -- a block of sites
 pub sites_order : (image : List ℕ) (k b : ℕ) → sites_fault image k b
-    ≡ or_else (heading_fault image k 2 b) (counts_fault image k (count_of (block_of image k)) (1 upto count_of (block_of image k) and count_of (block_of image k) upto 16))
+    ≡ or_else (heading_fault image k 2 b) (counts_fault (block_of image k) k (1 upto count_of (block_of image k) and count_of (block_of image k) upto 16))
 unfolding sites_fault counts_fault
 sites_order image k b = block_parts image k 2 b _ _
 
@@ -92,11 +84,11 @@ least_of false n = sym (true_of (0 upto n) ((upto_iff 0 n).1 zero-le))
 
 pub lines_order : (image : List ℕ) (k b j : ℕ) → lines_fault image k b j
     ≡ or_else (heading_fault image k 3 b)
-    (counts_fault image k (count_of (block_of image k)) (bool_byte (eqb j 0) upto count_of (block_of image k) and count_of (block_of image k) upto 31))
+    (counts_fault (block_of image k) k (bool_byte (eqb j 0) upto count_of (block_of image k) and count_of (block_of image k) upto 31))
 unfolding lines_fault counts_fault ◌is◌
 lines_order image k b j =
     block_parts image k 3 b _ _
-    ∙ ap (λ (t : Bool). or_else (heading_fault image k 3 b) (counts_fault image k (count_of (block_of image k)) (t and count_of (block_of image k) upto 31)))
+    ∙ ap (λ (t : Bool). or_else (heading_fault image k 3 b) (counts_fault (block_of image k) k (t and count_of (block_of image k) upto 31)))
     (least_of (eqb j 0) (count_of (block_of image k)))
 
 -- ---- the head
@@ -142,19 +134,23 @@ module _ (block : List ℕ) where
 
 -- ---- what is left over
 
-module _ (image : List ℕ) (k : ℕ) (z : length image % 512 ≡ 0) where
-  pub left_order : left_over_fault image k
-      ≡ elim (512 * (k + 1) upto length image) as (λ _. Option Refusal) [
-        | true ↦ or_else (some_if (not (check_of (block_of image k) is stored_check (block_of image k))) (refusal 2 k 0)) (some (refusal 3 k 0))
-        | false ↦ none
-      ]
-  unfolding left_over_fault ◌is◌ ◌isnt◌
-  left_order =
-      ap (λ (x : Bool). elim x as (λ _. Option Refusal) [
-        | true ↦ or_else (some_if (check_of (block_of image k) isnt stored_check (block_of image k)) (refusal 2 k 0)) (some (refusal 3 k 0))
-        | false ↦ none
-      ])
-      (same_test (512 * k below length image) (512 * (k + 1) upto length image) (λ t. let h = simp tests at t in simp tests (omega arith))
-      (λ t. let h = simp tests at t in simp tests (omega arith)))
+module _ (image : List ℕ) (k : ℕ) where
+  -- what is found where it is there
+  found : Option Refusal
+  found = or_else (some_if (check_of (block_of image k) isnt stored_check (block_of image k)) (refusal 2 k 0)) (some (refusal 3 k 0))
 
-pub ruleset block_faults = (answers, there, met, heading_order, heading_there, counts_order, sites_order, lines_order, head_order, kinds_yes, kinds_no, head_counted, head_names, head_boxes, head_kinds, head_few, left_order)
+  pub left_some : (block : List ℕ) → 512 * (k + 1) ≤ length image → block ≡ block_of image k
+      → left_over_fault image k ≡ or_else (some_if (not (check_of block is stored_check block)) (refusal 2 k 0)) (some (refusal 3 k 0))
+  unfolding left_over_fault ◌is◌ ◌isnt◌ ◌below◌ found
+  left_some block h e =
+      ap (λ (t : Bool). elim t as (λ _. Option Refusal) [ true ↦ found | false ↦ none ])
+      (true_of (512 * k below length image) ((below_iff (512 * k) (length image)).1 (omega arith)))
+      ∙ ap (λ (b : List ℕ). or_else (some_if (not (check_of b is stored_check b)) (refusal 2 k 0)) (some (refusal 3 k 0))) (sym e)
+
+  pub left_none : length image % 512 ≡ 0 → length image < 512 * (k + 1) → none ≡ left_over_fault image k
+  unfolding left_over_fault ◌isnt◌ found
+  left_none z h =
+      sym (ap (λ (t : Bool). elim t as (λ _. Option Refusal) [ true ↦ found | false ↦ none ])
+      (false_of (512 * k below length image) (λ t. let l = (below_iff (512 * k) (length image)).0 t in absurd (omega arith))))
+
+pub ruleset block_faults = (answers, there, heading_order, counts_order, sites_order, lines_order, head_order, kinds_yes, kinds_no, head_counted, head_names, head_boxes, head_kinds, head_few, left_some, left_none)

@@ -2,7 +2,7 @@
 use Rattle.std.specs.Prelude.{Bool, not, List, ℕ, ◌+◌, ◌*◌, length}
 use Rattle.std.proofs.Math.Option.{Option}
 use Rattle.definitions.specs.Bounded.{◌and◌, ◌implies◌, ◌is◌, ◌isnt◌, ◌below◌, ◌upto◌, all_below, some_if, or_else}
-use Rattle.definitions.specs.Words.{block_of, number_of, kind_of_block, box_of, spare_of, data_word}
+use Rattle.definitions.specs.Words.{block_of, number_of, kind_of_block, box_of, count_of, spare_of, data_word}
 use Rattle.definitions.specs.Check.{check_of, stored_check}
 use Rattle.definitions.specs.Answer.{Refusal, refusal}
 use Rattle.definitions.specs.ReadModel.{clear_from}
@@ -15,10 +15,10 @@ heading_fault image k asked box =
     (or_else (some_if (check_of block isnt stored_check block) (refusal 2 k 0))
     (some_if (not (number_of block is k and kind_of_block block is asked and box_of block is box and spare_of block is 0)) (refusal 3 k 0)))
 
--- the last two faults of a block of n records of two words: count, stray
-unfoldable pub counts_fault : List ℕ → ℕ → ℕ → Bool → Option Refusal
-counts_fault image k n counts =
-    or_else (some_if (not counts) (refusal 4 k 0)) (some_if (not (clear_from (2 * n) (block_of image k))) (refusal 5 k 0))
+-- the last two faults of a block of number k, whose records take two words each: count, stray
+unfoldable pub counts_fault : List ℕ → ℕ → Bool → Option Refusal
+counts_fault block k counts =
+    or_else (some_if (not counts) (refusal 4 k 0)) (some_if (not (clear_from (2 * count_of block) block)) (refusal 5 k 0))
 
 -- the kinds of so many names are at most 3
 unfoldable pub kinds_fit : List ℕ → ℕ → Bool

@@ -1,119 +1,105 @@
 #![tactic(auto, using(crate::proofs::FaultLaws::block_faults))]
 // Refusals 1 to 5 of one block: it is there, its check matches, its heading, its count, and nothing past its records.
-ghost use Rattle.std.specs.Prelude.{◌≡◌, ◌+◌, ◌*◌, ◌%◌, ◌<◌, ◌≤◌, length};
+// Bounds of indices and counts stand in the clauses: a type for each bound would be taken apart at every use.
+ghost use Rattle.std.specs.Prelude.{◌≡◌, ◌+◌, ◌*◌, ◌%◌, ◌<◌, ◌≤◌, length, IfOk};
 ghost use Rattle.definitions.specs.Bounded.{◌and◌, ◌upto◌};
-ghost use Rattle.definitions.specs.Words.{block_of};
+ghost use Rattle.definitions.specs.Words.{block_of, count_of};
 ghost use Rattle.definitions.specs.ReadModel.{head_counts, head_fault, sites_fault, lines_fault, left_over_fault};
+ghost use Rattle.blocks.specs.Answers.{kind_number};
 ghost use Rattle.refusals.specs.Answers.{answer_in};
 ghost use Rattle.block_faults.specs.BlockFaults.{heading_fault, counts_fault, kinds_fit};
 
+use blocks::Blocks;
 use blocks::inside::BlockKind;
-use refusals::{Refusal, Rule, fault_if};
+use refusals::{Refusal, Rule};
 
-// Block k is there, its check matches, and its heading is what the order asks for.
-fn heading_fault(image: &[u8], k: usize, kind: usize, b: usize) -> Result<(), Refusal>
-    ensures { answer_in result ≡ heading_fault image.now k kind b }
+// Block k, which is there, whose check matches, and whose heading is what the order asks for.
+fn heading_fault(image: &[u8], k: usize, kind: BlockKind, b: usize) -> Result<&[u8; 512], Refusal>
+    ensures answer { answer_in result ≡ heading_fault image.now k (kind_number kind) b }
+    ensures block { IfOk result (λ block. block.now ≡ block_of image.now k) }
 {
-    fault_if(!blocks::has_block(image, k), Rule::Length, k, 0)?;
-    fault_if(!blocks::inside::check_matches(image, k), Rule::Check, k, 0)?;
-    let h = blocks::inside::heading_of(image, k);
-    fault_if(
-        !blocks::inside::heading_matches(h, k, kind, b),
-        Rule::Heading,
-        k,
-        0,
-    )
+    Rule::Length.fault_if(!blocks::has_block(image, k), k, 0)?;
+    let block = blocks::inside::block(image, k);
+    Rule::Check.fault_if(!blocks::inside::check_matches(block), k, 0)?;
+    let h = blocks::inside::heading_of(block);
+    let fits = blocks::inside::heading_matches(h, k, kind as usize, b);
+    Rule::Heading.fault_if(!fits, k, 0)?;
+    Ok(block)
 }
 
-// 4 and 5 of a block of n records: at least and at most so many, and nothing past them.
-fn counts_fault(image: &[u8], k: usize, n: usize, least: usize, most: usize) -> Result<(), Refusal>
-    requires there { 512 * (k + 1) ≤ length image.now }
-    requires few { most ≤ 31 }
-    ensures { answer_in result ≡ counts_fault image.now k n (least upto n and n upto most) }
+// 4 and 5 of a block, of number k: at least and at most so many records, and nothing past them.
+fn counts_fault(block: &[u8; 512], k: usize, least: usize, most: usize) -> Result<(), Refusal>
+    requires { most ≤ 31 }
+    ensures { answer_in result ≡ counts_fault block.now k (least upto count_of block.now and count_of block.now upto most) }
 {
-    fault_if(n < least || most < n, Rule::Count, k, 0)?;
-    fault_if(
-        !blocks::inside::clear_from(image, k, 2 * n),
-        Rule::Stray,
-        k,
-        0,
-    )
+    let h = blocks::inside::heading_of(block);
+    let n = h.count;
+    Rule::Count.fault_if(n < least || most < n, k, 0)?;
+    Rule::Stray.fault_if(!blocks::inside::clear_from(block, 2 * n), k, 0)
 }
 
 pub fn sites_block(image: &[u8], k: usize, b: usize) -> Result<(), Refusal>
     ensures { answer_in result ≡ sites_fault image.now k b }
 {
-    heading_fault(image, k, BlockKind::Sites as usize, b)?;
-    let h = blocks::inside::heading_of(image, k);
-    counts_fault(image, k, h.count, 1, 16)
+    let block = heading_fault(image, k, BlockKind::Sites, b)?;
+    counts_fault(block, k, 1, 16)
 }
 
 // Block j of a box's lines.
 pub fn lines_block(image: &[u8], k: usize, b: usize, j: usize) -> Result<(), Refusal>
     ensures { answer_in result ≡ lines_fault image.now k b j }
 {
-    heading_fault(image, k, BlockKind::Lines as usize, b)?;
-    let h = blocks::inside::heading_of(image, k);
-    counts_fault(image, k, h.count, usize::from(j == 0), 31)
+    let block = heading_fault(image, k, BlockKind::Lines, b)?;
+    counts_fault(block, k, usize::from(j == 0), 31)
 }
 
-// The kinds of the first so many names are at most 3. A `for`: `all` over a closure that lends the image tells its proof too little.
-fn kinds_fit(image: &[u8], names: usize) -> bool
-    requires there { 512 ≤ length image.now }
-    requires few { names ≤ 60 }
-    ensures { result ≡ kinds_fit (block_of image.now 0) names }
+// The kinds of the first so many names are at most 3, `records::NameKind::Exposed`: a crate above this one. A `for`: `all` over a closure
+// that lends the block tells its proof too little.
+fn kinds_fit(block: &[u8; 512], names: usize) -> bool
+    requires { names ≤ 60 }
+    ensures { result ≡ kinds_fit block.now names }
 {
     for n in 0..names {
-        if 3 < blocks::inside::data_word(image, 0, 2 + n) {
+        if 3 < blocks::inside::data_word(block, 2 + n) {
             return false;
         }
     }
     true
 }
 
-fn head_counts(image: &[u8]) -> bool
-    requires { 512 ≤ length image.now }
-    ensures { result ≡ head_counts (block_of image.now 0) }
+fn head_counts(block: &[u8; 512]) -> bool
+    ensures { result ≡ head_counts block.now }
 {
-    let h = blocks::inside::heading_of(image, 0);
-    let names = blocks::inside::data_word(image, 0, 0);
-    let boxes = blocks::inside::data_word(image, 0, 1);
+    let h = blocks::inside::heading_of(block);
+    let names = blocks::inside::data_word(block, 0);
+    let boxes = blocks::inside::data_word(block, 1);
     if h.count != 0 || 60 < names || 8 < boxes {
         return false;
     }
     // A word of the image: usize has no From<u64>.
-    kinds_fit(image, names as usize)
+    kinds_fit(block, names as usize)
 }
 
 pub fn head_block(image: &[u8]) -> Result<(), Refusal>
     ensures { answer_in result ≡ head_fault image.now }
 {
-    heading_fault(image, 0, BlockKind::Head as usize, 0)?;
-    fault_if(!head_counts(image), Rule::Count, 0, 0)?;
+    let block = heading_fault(image, 0, BlockKind::Head, 0)?;
+    Rule::Count.fault_if(!head_counts(block), 0, 0)?;
     // A word of the image: usize has no From<u64>.
-    let names = blocks::inside::data_word(image, 0, 0) as usize;
-    fault_if(
-        !blocks::inside::clear_from(image, 0, 2 + names),
-        Rule::Stray,
-        0,
-        0,
-    )
+    let names = blocks::inside::data_word(block, 0) as usize;
+    let clear = blocks::inside::clear_from(block, 2 + names);
+    Rule::Stray.fault_if(!clear, 0, 0)
 }
 
 // A block left over, after the last box.
-pub fn left_over(image: &[u8], k: usize) -> Result<(), Refusal>
-    requires whole { length image.now % 512 ≡ 0 }
-    requires few { k ≤ 100 }
-    ensures { answer_in result ≡ left_over_fault image.now k }
+pub fn left_over(blocks: Blocks<'_>, k: usize) -> Result<(), Refusal>
+    requires { k ≤ 100 }
+    ensures { answer_in result ≡ left_over_fault blocks.entry.image.now k }
 {
-    if !blocks::has_block(image, k) {
+    let Some(block) = blocks::block(blocks.image, k) else {
         return Ok(());
-    }
-    let check = blocks::inside::check_matches(image, k);
-    fault_if(!check, Rule::Check, k, 0)?;
-    Err(Refusal {
-        number: Rule::Heading as u8,
-        place: k,
-        second: 0,
-    })
+    };
+    let check = blocks::inside::check_matches(block);
+    Rule::Check.fault_if(!check, k, 0)?;
+    Rule::Heading.fault_if(true, k, 0)
 }

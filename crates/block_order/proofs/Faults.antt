@@ -1,22 +1,21 @@
 -- Laws of refusals 1 to 5 in the order of the blocks: the length, a box, the boxes. Assumes nothing.
 use mathlib.Core.Path.{◌≡◌, refl, sym, ap, ◌∙◌}
-use mathlib.Core.Bool.{Bool, false, not, ◌||◌}
+use mathlib.Core.Bool.{Bool, not, ◌||◌}
 use mathlib.Core.List.{List}
 use mathlib.Core.Option.{none, some}
 use Prim.Native.Nat.{ℕ, ◌+◌, ◌*◌, ◌%◌, ◌≤◌, ◌<◌}
 use native.Mathlib.Omega.{arith}
 use lib.Dec.{eqb, ltb}
 use lib.ListN.{length}
-use Rattle.definitions.specs.Bounded.{◌or◌, ◌isnt◌, ◌below◌, ◌upto◌, some_if, or_else, first_below}
+use Rattle.definitions.specs.Bounded.{◌or◌, ◌isnt◌, ◌below◌, some_if, or_else, first_below}
 use Rattle.definitions.specs.Words.{block_of, count_of, data_word}
 use Rattle.definitions.specs.Answer.{Refusal, refusal}
 use Rattle.definitions.specs.Image.{boxes_of, line_blocks, sites_block}
 use Rattle.definitions.specs.ReadModel.{head_fault, sites_fault, lines_fault, box_fault, left_over_fault, length_fault, blocks_fault}
-use Rattle.definitions.proofs.Bounded.{or_is, upto_iff, not-false}
+use Rattle.definitions.proofs.Bounded.{or_is}
 use Rattle.definitions.proofs.Loops.{Passed}
 use Rattle.definitions.proofs.ReadModel.{head_iff, most_blocks, sites-next, sites-first, blocks_1, blocks_2, blocks_3, blocks_4, count-missing}
 use Rattle.refusals.proofs.Answers.{answers, run_stop}
-use Rattle.block_faults.proofs.FaultLaws.{there}
 use Rattle.block_order.specs.BlockOrder.{lines_faults, boxes_fault}
 
 -- ---- the length
@@ -31,10 +30,8 @@ length-order image =
 
 -- ---- the count of a block
 
-pub count_none : (image : List ℕ) (k : ℕ) (t : Bool) → length image % 512 ≡ 0 → t ≡ (512 * (k + 1) upto length image) → t ≡ false
-    → 0 ≡ count_of (block_of image k)
-count_none image k t z e q =
-    count-missing image k z (λ h. not-false (sym e ∙ q) ((upto_iff (512 * (k + 1)) (length image)).1 h))
+pub count_none : (image : List ℕ) (k : ℕ) → length image % 512 ≡ 0 → length image < 512 * (k + 1) → 0 ≡ count_of (block_of image k)
+count_none image k z h = count-missing image k z (λ l. absurd (omega arith))
 
 -- ---- a box
 
@@ -79,4 +76,4 @@ module _ (image : List ℕ) where
   unfolding boxes_of
   head_few_boxes e = ((head_iff image).0 (sym e)).boxes
 
-pub ruleset order = (answers, there, blocks_1, blocks_2, blocks_3, blocks_4, length-order, count_none, few_blocks, lines_order, lines_stop, box_order, sites-first, next_sites, boxes_order, image_order, head_there, head_few_boxes)
+pub ruleset order = (answers, blocks_1, blocks_2, blocks_3, blocks_4, length-order, count_none, few_blocks, lines_order, lines_stop, box_order, sites-first, next_sites, boxes_order, image_order, head_there, head_few_boxes)

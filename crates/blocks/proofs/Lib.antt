@@ -1,4 +1,3 @@
-pub mod Headings
 pub mod Modulo
 pub mod Loops
-pub mod Blocks
+pub mod BlockLaws

@@ -1,7 +1,7 @@
 -- The loop of the check, in four chains: at place p with n words to go, what is left takes the check so far to the answer R. Assumes nothing.
 use Rattle.std.proofs.Common.{◌≡◌, ℕ, zero, suc, ◌+◌, ◌-◌, ◌*◌, ◌%◌, ◌^◌, ◌<◌, ◌≤◌, List, length, drop, sym, refl, ap, ◌∙◌, ap₂, not-suc-le-zero, arith, rules}
 use Rattle.definitions.specs.Words.{word_at, words_of}
-use Rattle.definitions.specs.Check.{check_from}
+use Rattle.definitions.specs.Check.{check_from, check_of}
 use Rattle.definitions.proofs.Check.{check-turn}
 use Rattle.blocks.proofs.Modulo.{Same, same, step_same, chain_step-is}
 
@@ -41,15 +41,15 @@ of_chains_same a b c d x y z w e f g h =
     step_same (31 * (31 * a + b) + c) (31 * (31 * x + y) + z) d w (step_same (31 * a + b) (31 * x + y) c z (step_same a x b y e f) g) h
 
 -- the 1 of the start and the first three words
-pub chains_start : (s : List ℕ) (at p b c d : ℕ) → at + 504 ≤ length s → p ≡ at + 24 → b ≡ word_at s at → c ≡ word_at s (at + 8) → d ≡ word_at s (at + 16)
-    → Chains s (check_from 1 (words_of 63 (drop at s))) p 15 1 b c d
-unfolding of_chains
-chains_start s at p b c d h q e f g =
-    let R = check_from 1 (words_of 63 (drop at s)) in
-    let none : ToGo s R at 63 1 = record { room = h; rest = refl } in
-    let one = turn s R at (at + 8) 63 62 1 b refl refl e none in
-    let two = turn s R (at + 8) (at + 16) 62 61 (31 * 1 + b) c (omega arith) refl f one in
-    record { check = turn s R (at + 16) p 61 60 (31 * (31 * 1 + b) + c) d (omega arith) refl g two }
+pub chains_start : (s : List ℕ) (p b c d : ℕ) → length s ≡ 512 → p ≡ 24 → b ≡ word_at s 0 → c ≡ word_at s 8 → d ≡ word_at s 16
+    → Chains s (check_of s) p 15 1 b c d
+unfolding of_chains check_of
+chains_start s p b c d h q e f g =
+    let R = check_from 1 (words_of 63 s) in
+    let none : ToGo s R 0 63 1 = record { room = omega (arith, h); rest = refl } in
+    let one = turn s R 0 8 63 62 1 b refl refl e none in
+    let two = turn s R 8 16 62 61 (31 * 1 + b) c refl refl f one in
+    record { check = turn s R 16 p 61 60 (31 * (31 * 1 + b) + c) d q refl g two }
 
 -- four words more, one to a chain
 pub chains_turn : (s : List ℕ) (R p n q m a b c d e f g h : ℕ) → Chains s R p n a b c d → 0 < n → q ≡ p + 32 → m + 1 ≡ n

@@ -1,5 +1,5 @@
-// A block of an image that has it whole: its heading, its data words and its check. These require the block, so that who reads an image
-// tests its length once.
+// A block: its heading, its data words and its check. Who reads an image tests once that the block is there.
+// Bounds of indices and counts stand in the clauses: a type for each bound would be taken apart at every use.
 ghost use Rattle.std.specs.Prelude.{◌≡◌, ◌+◌, ◌*◌, ◌<◌, ◌≤◌, length};
 ghost use Rattle.definitions.specs.Bounded.{◌and◌, ◌is◌};
 ghost use Rattle.definitions.specs.Words.{block_of, data_word};
@@ -18,7 +18,7 @@ pub enum BlockKind {
     Kap = 6,
 }
 
-// Bytes 0 to 7 of a block; spare is bytes 6 and 7.
+// Bytes 0 to 7 of a block; spare is bytes 6 and 7. The kind is the image's byte, and may be any.
 #[derive(Clone, Copy, Debug, PartialEq, Eq)]
 pub struct Heading {
     pub number: usize,
@@ -28,17 +28,25 @@ pub struct Heading {
     pub spare: usize,
 }
 
-pub fn heading_of(image: &[u8], k: usize) -> Heading
+// Block k of an image that has it whole.
+#[tactic(auto, using(crate::proofs::BlockLaws::blocks))]
+pub fn block(image: &[u8], k: usize) -> &[u8; 512]
     requires { 512 * (k + 1) ≤ length image.now }
-    ensures { result ≡ heading_of (block_of image.now k) }
+    ensures { result.now ≡ block_of image.now k }
 {
-    let at = 512 * k;
+    image[512 * k..].first_chunk::<512>().unwrap()
+}
+
+#[tactic(auto, unfolding(definitions::specs::Words::number_of, definitions::specs::Words::kind_of_block, definitions::specs::Words::box_of, definitions::specs::Words::count_of, definitions::specs::Words::spare_of))]
+pub fn heading_of(block: &[u8; 512]) -> Heading
+    ensures { result ≡ heading_of block.now }
+{
     Heading {
-        number: words::half(image, at),
-        kind: words::byte(image, at + 2),
-        place: words::byte(image, at + 3),
-        count: words::half(image, at + 4),
-        spare: words::half(image, at + 6),
+        number: words::half(block, 0),
+        kind: words::byte(block, 2),
+        place: words::byte(block, 3),
+        count: words::half(block, 4),
+        spare: words::half(block, 6),
     }
 }
 
@@ -49,42 +57,37 @@ pub fn heading_matches(h: Heading, k: usize, kind: usize, place: usize) -> bool
     (h.number == k) & (h.kind == kind) & (h.place == place) & (h.spare == 0)
 }
 
-#[tactic(auto, using(crate::proofs::Blocks::blocks))]
-pub fn data_word(image: &[u8], k: usize, i: usize) -> u64
-    requires there { 512 * (k + 1) ≤ length image.now }
-    requires inside { i < 62 }
-    ensures { result ≡ data_word (block_of image.now k) i }
+#[tactic(auto, unfolding(definitions::specs::Words::data_word))]
+pub fn data_word(block: &[u8; 512], i: usize) -> u64
+    requires { i < 62 }
+    ensures { result ≡ data_word block.now i }
 {
-    words::word(image, 512 * k + (8 + 8 * i))
+    words::word(block, 8 + 8 * i)
 }
 
 // Data words from a number on are zero: joined, and tested once.
-#[tactic(auto, using(crate::proofs::Blocks::blocks))]
-pub fn clear_from(image: &[u8], k: usize, from: usize) -> bool
-    requires { 512 * (k + 1) ≤ length image.now }
-    ensures { result ≡ clear_from from (block_of image.now k) }
+#[tactic(auto, using(crate::proofs::BlockLaws::blocks))]
+pub fn clear_from(block: &[u8; 512], from: usize) -> bool
+    ensures { result ≡ clear_from from block.now }
 {
     let mut w: u64 = 0;
     for i in from..62 {
-        w |= data_word(image, k, i);
+        w |= data_word(block, i);
     }
     w == 0
 }
 
 // The check that a block ought to have.
-#[tactic(auto, using(crate::proofs::Blocks::blocks))]
-pub fn check(image: &[u8], k: usize) -> u64
-    requires { 512 * (k + 1) ≤ length image.now }
-    ensures { result ≡ check_of (block_of image.now k) }
+pub fn check(block: &[u8; 512]) -> u64
+    ensures { result ≡ check_of block.now }
 {
-    crate::sums::by_chains(image, 512 * k)
+    crate::sums::by_chains(block)
 }
 
 // The check that a block stores is the one that it ought to have.
-#[tactic(auto, using(crate::proofs::Blocks::blocks))]
-pub fn check_matches(image: &[u8], k: usize) -> bool
-    requires { 512 * (k + 1) ≤ length image.now }
-    ensures { result ≡ (check_of (block_of image.now k) is stored_check (block_of image.now k)) }
+#[tactic(auto, using(crate::proofs::BlockLaws::blocks))]
+pub fn check_matches(block: &[u8; 512]) -> bool
+    ensures { result ≡ (check_of block.now is stored_check block.now) }
 {
-    check(image, k) == words::word(image, 512 * k + 504)
+    check(block) == words::word(block, 504)
 }

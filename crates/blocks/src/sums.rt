@@ -1,7 +1,7 @@
 // The check's arithmetic, modulo 2^64 on purpose, and the check of 63 words in four chains.
-ghost use Rattle.std.specs.Prelude.{◌≡◌, ◌+◌, ◌*◌, ◌%◌, ◌^◌, ◌≤◌, length, drop};
-ghost use Rattle.definitions.specs.Words.{word_at, words_of};
-ghost use Rattle.definitions.specs.Check.{check_from};
+ghost use Rattle.std.specs.Prelude.{◌≡◌, ◌+◌, ◌*◌, ◌%◌, ◌^◌, ◌≤◌, length};
+ghost use Rattle.definitions.specs.Words.{word_at};
+ghost use Rattle.definitions.specs.Check.{check_of};
 
 // 31 x: five doublings, and x off.
 #[tactic(auto, using(crate::proofs::Modulo::thirty_one))]
@@ -32,23 +32,22 @@ fn chain_step(c: u64, s: &[u8], p: usize) -> u64
     step(times31(times31(times31(c))), words::word(s, p))
 }
 
-// The check of the 63 words from a place on. The 1 of the start counts as a word before them; of these 64 each chain has every fourth, so that
+// The check of a block's first 63 words. The 1 of the start counts as a word before them; of these 64 each chain has every fourth, so that
 // no chain waits for another, and three steps join the chains: 31 (31 (31 a + b) + c) + d.
 #[tactic(auto, using(crate::proofs::Loops::sums))]
-pub fn by_chains(s: &[u8], at: usize) -> u64
-    requires { at + 504 ≤ length s.now }
-    ensures { result ≡ check_from 1 (words_of 63 (drop at s.now)) }
+pub fn by_chains(block: &[u8; 512]) -> u64
+    ensures { result ≡ check_of block.now }
 {
     let mut a: u64 = 1;
-    let mut b = words::word(s, at);
-    let mut c = words::word(s, at + 8);
-    let mut d = words::word(s, at + 16);
+    let mut b = words::word(block, 0);
+    let mut c = words::word(block, 8);
+    let mut d = words::word(block, 16);
     for i in 0..15 {
-        let p = at + 24 + 32 * i;
-        a = chain_step(a, s, p);
-        b = chain_step(b, s, p + 8);
-        c = chain_step(c, s, p + 16);
-        d = chain_step(d, s, p + 24);
+        let p = 24 + 32 * i;
+        a = chain_step(a, block, p);
+        b = chain_step(b, block, p + 8);
+        c = chain_step(c, block, p + 16);
+        d = chain_step(d, block, p + 24);
     }
     step(step(step(a, b), c), d)
 }

@@ -1,20 +1,19 @@
 #![tactic(auto, using(crate::proofs::ReachLaws::reach))]
 // Rule 9 in one box: the names bound strictly above each line, and the first line whose names do not reach it.
-ghost use Rattle.std.specs.Prelude.{◌≡◌, length};
+ghost use Rattle.std.specs.Prelude.{◌≡◌};
 ghost use Rattle.definitions.specs.Image.{model_of};
 ghost use Rattle.definitions.specs.ReadModel.{bound_before, reach_fits};
 ghost use Rattle.refusals.specs.Answers.{answer_in};
 ghost use Rattle.records.specs.Records.{line_in};
 ghost use Rattle.records.specs.NameSets.{SetOf};
-ghost use Rattle.records.specs.Places.{LinesThere, LinesAt};
+ghost use Rattle.records.specs.Places.{LinesAt};
 ghost use Rattle.record_rules.specs.Rules.{is_free_or_unlisted};
 ghost use Rattle.box_runs.specs.Runs.{TreesFit, box_misfit};
 ghost use Rattle.box_reach.specs.Reach.{SetAt, SetAtChildren, HandedDownEach};
 
-use records::inside::line;
 use records::names::binder;
-use records::{Line, Op};
-use refusals::{Refusal, Rule, fault_if};
+use records::{Line, Lines, Op};
+use refusals::{Refusal, Rule};
 
 // The entry c set to v where a test is met and c is in range.
 fn set_at(up: &mut [u64; 124], c: usize, v: u64, yes: bool)
@@ -33,40 +32,38 @@ fn set_at_children(up: &mut [u64; 124], l: Line, here: u64)
     set_at(up, l.child2, here, l.op == Op::Parallel as u8);
 }
 
-// The names that the n lines after block k hand down to each line: in a box whose tree fits, the names bound strictly above it.
-pub fn above(image: &[u8], k: usize, n: usize, up: &mut [u64; 124])
-    requires { LinesThere image.now k n }
-    ensures { HandedDownEach image.now k n up.new }
+// The names that the lines hand down to each line: in a box whose tree fits, the names bound strictly above it.
+pub fn above(lines: Lines<'_>, up: &mut [u64; 124])
+    ensures { HandedDownEach lines.entry.image.now lines.entry.k lines.entry.n up.new }
 {
     *up = [0u64; 124];
-    for i in 0..n {
-        let l = line(image, k, i);
+    for i in 0..lines.n {
+        let l = lines.line(i);
         let here = sets::union(binder(l), up[i]);
         set_at_children(up, l, here);
     }
 }
 
-// 9 in box b, in one run: what is bound above a line is handed down by the lines before it. free_or_unlisted: the names that need no binding; bound: those that earlier boxes bind.
+// 9 in box b, of these lines, in one run: what is bound above a line is handed down by the lines before it. free_or_unlisted: the names that
+// need no binding; bound: those that earlier boxes bind.
 pub fn box_reach(
-    image: &[u8],
+    lines: Lines<'_>,
     b: usize,
-    k: usize,
-    n: usize,
     free_or_unlisted: u64,
     bound: u64,
 ) -> Result<(), Refusal>
-    requires lines { LinesAt image.now b k n }
-    requires trees { TreesFit image.now b n }
-    requires unbound { SetOf free_or_unlisted (is_free_or_unlisted (model_of image.now).kinds) }
-    requires bound { SetOf bound (bound_before (model_of image.now) b 0) }
-    ensures { answer_in result ≡ box_misfit 9 n (reach_fits (model_of image.now)) b }
+    requires lines { LinesAt lines.image.now b lines.k lines.n }
+    requires trees { TreesFit lines.image.now b lines.n }
+    requires unbound { SetOf free_or_unlisted (is_free_or_unlisted (model_of lines.image.now).kinds) }
+    requires bound { SetOf bound (bound_before (model_of lines.image.now) b 0) }
+    ensures { answer_in result ≡ box_misfit 9 lines.entry.n (reach_fits (model_of lines.entry.image.now)) b }
 {
     let mut up = [0u64; 124];
     let mut seen = bound;
-    for i in 0..n {
-        let l = line(image, k, i);
+    for i in 0..lines.n {
+        let l = lines.line(i);
         let fits = record_rules::reach_fits(l, free_or_unlisted, up[i], seen);
-        fault_if(!fits, Rule::Reach, b, i)?;
+        Rule::Reach.fault_if(!fits, b, i)?;
         let bs = binder(l);
         let here = sets::union(bs, up[i]);
         set_at_children(&mut up, l, here);

@@ -9,7 +9,7 @@ use Rattle.definitions.specs.Model.{Box, Model}
 use Rattle.definitions.specs.Record.{stamp_limit, stamp}
 use Rattle.definitions.specs.StateRules.{record_fits}
 use Rattle.definitions.proofs.Bounded.{and_iff, is_iff, upto_iff, same_test}
-use Rattle.held_limits.specs.declared.Limits.{Limits}
+use Rattle.held_limits.specs.declared.Limit.{Limit}
 use Rattle.box_records.specs.Rules.{site_slots_fit, DecidesSiteSlots, thread_slots_fit, DecidesThreadSlots, DecidesRecord}
 
 -- a record of the right length, whose last stamp is at most the limit, fits where its sites and threads do
@@ -21,7 +21,7 @@ record_words_lem m last x r long h =
     (λ t. let u = simp and_iff at t in simp and_iff (((((is_iff (length r) 1139).1 long, (upto_iff (stamp r) stamp_limit).1 h), u.1), u.0.0), u.0.1))
     (λ t. let u = simp and_iff at t in simp and_iff ((u.0.1, u.1), u.0.0.1))
 
-module _ (limits : Limits) (up : List ℕ) (lines s : ℕ) (r : List ℕ) (long : length r ≡ 1139) (h : stamp r ≤ stamp_limit) (t : Bool) (d : DecidesSiteSlots limits s r t) where
+module _ (limits : List Limit) (up : List ℕ) (lines s : ℕ) (r : List ℕ) (long : length r ≡ 1139) (h : stamp r ≤ stamp_limit) (t : Bool) (d : DecidesSiteSlots limits s r t) where
   pub record_sites : t ≡ false → DecidesRecord limits up lines s r t
   unfolding ◌and◌
   record_sites z = record {

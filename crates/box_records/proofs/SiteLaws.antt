@@ -18,14 +18,14 @@ use Rattle.definitions.proofs.Bounded.{tests, and_is, or_is, and_iff, or_iff, is
 use Rattle.definitions.proofs.Loops.{fails, holds, Joining, joining_start, joining_turn, joining_end}
 use Rattle.definitions.proofs.Slots.{slot_length}
 use Rattle.definitions.proofs.StateRules.{number_low, held_iff}
-use Rattle.held_limits.specs.declared.Limits.{Limits}
+use Rattle.held_limits.specs.declared.Limit.{Limit}
 use Rattle.held_limits.specs.Limits.{in_limits, LimitsOf}
 use Rattle.box_records.specs.Rules.{clear_between, follows, DecidesFollows, DecidesType, SubjectsOf, DecidesSite, subjects_differ, new_subject, site_fits_at, DecidesSites, site_slots_fit, DecidesSiteSlots}
 use Rattle.box_records.proofs.WordLaws.{slots_fit_lem}
 
 -- ---- types
 
-pub follows_decided : (limits : Limits) (before v : ℕ) (a : Bool) → a ≡ in_limits limits v
+pub follows_decided : (limits : List Limit) (before v : ℕ) (a : Bool) → a ≡ in_limits limits v
     → DecidesFollows limits before v (eqb v 0 || ((a && not (eqb before 0)) && ltb before v))
 unfolding follows ◌is◌ ◌isnt◌ ◌below◌
 follows_decided limits before v a e = record {
@@ -72,11 +72,11 @@ module _ (m : Model) (last : ℕ → ℕ) (x : List ℕ) where
           subst (λ (v : ℕ). T (held_fits m last v)) e (g i (omega arith) (λ z. f (sym e ∙ z))).0
 
 -- the words before word j follow one another
-pub record TypeRun (limits : Limits) (x : List ℕ) (j before : ℕ) (ok : Bool) : Type 0 where
+pub record TypeRun (limits : List Limit) (x : List ℕ) (j before : ℕ) (ok : Bool) : Type 0 where
   pub at : before ≡ type_word x j
   pub known : (m : Model) (last : ℕ → ℕ) → LimitsOf m last limits → Joining 7 (type_step m last x) j ok
 
-module _ (limits : Limits) (x : List ℕ) where
+module _ (limits : List Limit) (x : List ℕ) where
   pub type_start : (before : ℕ) → before ≡ type_word x 0 → TypeRun limits x 0 before true
   type_start before e = record { at = e; known = λ m last k. joining_start 7 (type_step m last x) }
 
@@ -118,7 +118,7 @@ offered-is m last s v n o e =
     at : has s n ≡ (listed m.kinds (held_number v) and offered m v)
     at = ap (has s) e ∙ o.at (held_number v) (number_low v)
 
-pub site_decided : (limits : Limits) (s : ℕ) (r : List ℕ) (i w n f : ℕ) (a b d : Bool) → length r ≡ 1139 → i < 16 → w ≡ subject (site r i) → a ≡ in_limits limits w
+pub site_decided : (limits : List Limit) (s : ℕ) (r : List ℕ) (i w n f : ℕ) (a b d : Bool) → length r ≡ 1139 → i < 16 → w ≡ subject (site r i) → a ≡ in_limits limits w
     → n ≡ held_number w → b ≡ has s n → f ≡ flag (site r i) → DecidesType limits (site r i) d → DecidesSite limits s (site r i) (((a && b) && leb f 1) && d)
 unfolding site_words_fit ◌upto◌ ◌and◌ offered
 site_decided limits s r i w n f a b d long h e q z c g k = record {
@@ -141,10 +141,10 @@ new_end r i j ok p h = joining_end i (subjects_differ r i) j ok p h
 
 -- ---- the sites of a record
 
-pub record SitesRun (limits : Limits) (s : ℕ) (r : List ℕ) (n i : ℕ) (ok : Bool) : Type 0 where
+pub record SitesRun (limits : List Limit) (s : ℕ) (r : List ℕ) (n i : ℕ) (ok : Bool) : Type 0 where
   pub known : (m : Model) (last : ℕ → ℕ) → LimitsOf m last limits → SubjectsOf m s → Joining n (site_fits_at m last r) i ok
 
-module _ (limits : Limits) (s : ℕ) (r : List ℕ) (n : ℕ) where
+module _ (limits : List Limit) (s : ℕ) (r : List ℕ) (n : ℕ) where
   pub sites-start : SitesRun limits s r n 0 true
   sites-start = record { known = λ m last l o. joining_start n (site_fits_at m last r) }
 
@@ -191,7 +191,7 @@ site_slots m last r n long e h =
     slots_are = ap (λ (k : ℕ). slots_fit 10 (site_words_fit m last) k (site r)) (sym e) ∙ slots_fit_lem 3 10 (omega arith) r (omega arith) (site_words_fit m last) n h
 
 -- more than 16 sites; a site that does not fit; and else the words past the sites
-module _ (limits : Limits) (s : ℕ) (r : List ℕ) (n : ℕ) (e : n ≡ sites r) where
+module _ (limits : List Limit) (s : ℕ) (r : List ℕ) (n : ℕ) (e : n ≡ sites r) where
   pub sites_many : 16 < n → DecidesSiteSlots limits s r false
   unfolding site_slots_fit slots_fit
   sites_many h = record {
@@ -211,4 +211,4 @@ module _ (limits : Limits) (s : ℕ) (r : List ℕ) (n : ℕ) (e : n ≡ sites r
       decides = λ m last l o. ap₂ ◌and◌ (sym z ∙ d.decides m last l o) q ∙ site_slots m last r n long e h;
     }
 
-pub ruleset site_rules = (follows_decided, type_start, type_turn, type_end, site_decided, joining_start, joining_turn, differ_test, new_end, sites-start, sites-turn, sites_end, sites_many, sites-misfit, sites-clear)
+pub ruleset site_rules = (follows_decided, type_start, type_turn, type_end, joining_start, joining_turn, differ_test, new_end, site_decided, sites-start, sites-turn, sites_end, sites_many, sites-misfit, sites-clear)

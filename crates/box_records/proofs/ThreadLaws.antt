@@ -27,7 +27,7 @@ use Rattle.sets.specs.Ascending.{LowestOf}
 use Rattle.sets.specs.Names.{NamesOnly}
 use Rattle.sets.proofs.Walk.{Left, left_start, left_turn, left_name, split_each, none_each}
 use Rattle.records.specs.NameSets.{SetOf}
-use Rattle.held_limits.specs.declared.Limits.{Limits}
+use Rattle.held_limits.specs.declared.Limit.{Limit}
 use Rattle.held_limits.specs.Limits.{in_limits, LimitsOf}
 use Rattle.box_records.specs.Rules.{clear_between, count_below, has_binding, binding_fits, DecidesBindings, AboveOf, AboveEach, Covering, StandBelow, NamesAbove, DecidesThread, thread_fits_at, DecidesThreads, thread_slots_fit, DecidesThreadSlots}
 use Rattle.box_records.proofs.WordLaws.{count_more, count_most, count_cong, count_same, slots_fit_lem}
@@ -67,11 +67,11 @@ count_end y i c p h = p.same ∙ ap (λ (n : ℕ). count_below n (has_binding y)
 
 -- ---- the bindings of a set of names
 
-pub record BindingsRun (limits : Limits) (y : List ℕ) (s left : ℕ) (ok : Bool) : Type 0 where
+pub record BindingsRun (limits : List Limit) (y : List ℕ) (s left : ℕ) (ok : Bool) : Type 0 where
   pub there : Left s left
   pub known : (m : Model) (last : ℕ → ℕ) → LimitsOf m last limits → (ok and for_each left (binding_fits m last y)) ≡ for_each s (binding_fits m last y)
 
-module _ (limits : Limits) (y : List ℕ) (s : ℕ) where
+module _ (limits : List Limit) (y : List ℕ) (s : ℕ) where
   pub bindings_start : s < 2 ^ 64 → BindingsRun limits y s s true
   unfolding ◌and◌
   bindings_start h = record { there = left_start s h; known = λ m last l. refl }
@@ -153,7 +153,7 @@ module _ (m : Model) (last : ℕ → ℕ) (x : Box) (y : List ℕ) (long : lengt
       unbound n h b f (no z) =
           absurd (b ((member n h).0 (count_same (has_binding y) (has s) 60 (λ i l u. (isnt_iff (binding y i) 0).1 (f i l u).given) (e ∙ size_names s only) n h ((isnt_iff (binding y n) 0).1 z))))
 
-module _ (limits : Limits) (up : List ℕ) (lines : ℕ) (r : List ℕ) (t l : ℕ) (at : l ≡ line (thread r t)) where
+module _ (limits : List Limit) (up : List ℕ) (lines : ℕ) (r : List ℕ) (t l : ℕ) (at : l ≡ line (thread r t)) where
   pub thread_past : lines ≤ l → DecidesThread limits up lines (thread r t) false
   thread_past h = record {
     decides = λ m last x k a.
@@ -216,10 +216,10 @@ module _ (r : List ℕ) (lines t n : ℕ) (p : StandBelow r lines t n) where
 
 -- ---- the threads of a record
 
-pub record ThreadsRun (limits : Limits) (up : List ℕ) (lines : ℕ) (r : List ℕ) (n t : ℕ) : Type 0 where
+pub record ThreadsRun (limits : List Limit) (up : List ℕ) (lines : ℕ) (r : List ℕ) (n t : ℕ) : Type 0 where
   pub known : (m : Model) (last : ℕ → ℕ) (x : Box) → LimitsOf m last limits → AboveEach x lines up r n → Passing (thread_fits_at m last x r) t
 
-module _ (limits : Limits) (up : List ℕ) (lines : ℕ) (r : List ℕ) (n : ℕ) where
+module _ (limits : List Limit) (up : List ℕ) (lines : ℕ) (r : List ℕ) (n : ℕ) where
   pub threads-start : ThreadsRun limits up lines r n 0
   threads-start = record { known = λ m last x _ _. passing_start (thread_fits_at m last x r) }
 
@@ -247,7 +247,7 @@ thread_slots m last x r n long e h =
     sym (ap (λ (k : ℕ). slots_fit 61 (thread_words_fit m last x) k (thread r)) (sym e) ∙ slots_fit_lem 163 61 (omega arith) r (omega arith) (thread_words_fit m last x) n h)
 
 -- more than 16 threads; a thread that does not fit; and else the words past the threads
-module _ (limits : Limits) (up : List ℕ) (lines : ℕ) (r : List ℕ) (n : ℕ) (e : n ≡ threads r) where
+module _ (limits : List Limit) (up : List ℕ) (lines : ℕ) (r : List ℕ) (n : ℕ) (e : n ≡ threads r) where
   pub threads_many : 16 < n → DecidesThreadSlots limits up lines r false
   unfolding thread_slots_fit slots_fit
   threads_many h = record {

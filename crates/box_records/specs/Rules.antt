@@ -11,7 +11,7 @@ use Rattle.definitions.specs.Record.{site_width, thread_width, sites, threads, s
 use Rattle.definitions.specs.StateRules.{slots_fit, held_fits, type_words_fit, site_words_fit, thread_words_fit, record_fits}
 use Rattle.sets.specs.Names.{NamesOnly}
 use Rattle.records.specs.NameSets.{SetOf}
-use Rattle.held_limits.specs.declared.Limits.{Limits}
+use Rattle.held_limits.specs.declared.Limit.{Limit}
 use Rattle.held_limits.specs.Limits.{LimitsOf}
 
 -- ---- words
@@ -31,17 +31,17 @@ count_below (suc n) p = count_below n p + elim (p n) [ true ↦ 1 | false ↦ 0 
 unfoldable pub follows : Model → (ℕ → ℕ) → ℕ → ℕ → Bool
 follows m last before v = v is 0 or (held_fits m last v and before isnt 0 and before below v)
 
-pub record DecidesFollows (limits : Limits) (before v : ℕ) (r : Bool) : Type 0 where
+pub record DecidesFollows (limits : List Limit) (before v : ℕ) (r : Bool) : Type 0 where
   pub decides : (m : Model) (last : ℕ → ℕ) → LimitsOf m last limits → r ≡ follows m last before v
 
-pub record DecidesType (limits : Limits) (x : List ℕ) (r : Bool) : Type 0 where
+pub record DecidesType (limits : List Limit) (x : List ℕ) (r : Bool) : Type 0 where
   pub decides : (m : Model) (last : ℕ → ℕ) → LimitsOf m last limits → r ≡ type_words_fit m last x
 
 -- s is the set of the names that a site may offer: those of kind 0 or 3
 pub record SubjectsOf (m : Model) (s : ℕ) : Type 0 where
   pub at : (n : ℕ) → n < 64 → has s n ≡ (listed m.kinds n and (kind_of_name m.kinds n is 0 or kind_of_name m.kinds n is 3))
 
-pub record DecidesSite (limits : Limits) (s : ℕ) (x : List ℕ) (r : Bool) : Type 0 where
+pub record DecidesSite (limits : List Limit) (s : ℕ) (x : List ℕ) (r : Bool) : Type 0 where
   pub decides : (m : Model) (last : ℕ → ℕ) → LimitsOf m last limits → SubjectsOf m s → r ≡ site_words_fit m last x
 
 -- sites i and j of a record differ in their subjects; site i in its subject from each site before it
@@ -54,7 +54,7 @@ new_subject r i = all_below i (subjects_differ r i)
 unfoldable pub site_fits_at : Model → (ℕ → ℕ) → List ℕ → ℕ → Bool
 site_fits_at m last r i = site_words_fit m last (site r i) and new_subject r i
 
-pub record DecidesSites (limits : Limits) (s : ℕ) (r : List ℕ) (n : ℕ) (t : Bool) : Type 0 where
+pub record DecidesSites (limits : List Limit) (s : ℕ) (r : List ℕ) (n : ℕ) (t : Bool) : Type 0 where
   pub decides : (m : Model) (last : ℕ → ℕ) → LimitsOf m last limits → SubjectsOf m s → t ≡ all_below n (site_fits_at m last r)
 
 -- the sites of a record, and the words of those that it lacks
@@ -63,7 +63,7 @@ site_slots_fit m last r =
     slots_fit site_width (site_words_fit m last) (sites r) (site r)
     and all_below slot_limit (λ i. all_below i (λ j. i below sites r implies subject (site r j) isnt subject (site r i)))
 
-pub record DecidesSiteSlots (limits : Limits) (s : ℕ) (r : List ℕ) (t : Bool) : Type 0 where
+pub record DecidesSiteSlots (limits : List Limit) (s : ℕ) (r : List ℕ) (t : Bool) : Type 0 where
   pub decides : (m : Model) (last : ℕ → ℕ) → LimitsOf m last limits → SubjectsOf m s → t ≡ site_slots_fit m last r
 
 -- ---- threads
@@ -75,7 +75,7 @@ has_binding y n = binding y n isnt 0
 unfoldable pub binding_fits : Model → (ℕ → ℕ) → List ℕ → ℕ → Bool
 binding_fits m last y n = held_fits m last (binding y n)
 
-pub record DecidesBindings (limits : Limits) (y : List ℕ) (s : ℕ) (r : Bool) : Type 0 where
+pub record DecidesBindings (limits : List Limit) (y : List ℕ) (s : ℕ) (r : Bool) : Type 0 where
   pub decides : (m : Model) (last : ℕ → ℕ) → LimitsOf m last limits → r ≡ for_each s (binding_fits m last y)
 
 -- the entry of the line at which thread y stands, where box x of so many lines has it, is the set of the names bound strictly above it
@@ -103,13 +103,13 @@ pub record NamesAbove (lines : ℕ) (up : List ℕ) : Type 0 where
   pub few : lines ≤ 124
   pub names : (l : ℕ) → l < lines → NamesOnly (get_or up l 0)
 
-pub record DecidesThread (limits : Limits) (up : List ℕ) (lines : ℕ) (y : List ℕ) (r : Bool) : Type 0 where
+pub record DecidesThread (limits : List Limit) (up : List ℕ) (lines : ℕ) (y : List ℕ) (r : Bool) : Type 0 where
   pub decides : (m : Model) (last : ℕ → ℕ) (x : Box) → LimitsOf m last limits → AboveOf x lines up y → r ≡ thread_words_fit m last x y
 
 unfoldable pub thread_fits_at : Model → (ℕ → ℕ) → Box → List ℕ → ℕ → Bool
 thread_fits_at m last x r t = thread_words_fit m last x (thread r t)
 
-pub record DecidesThreads (limits : Limits) (up : List ℕ) (lines : ℕ) (r : List ℕ) (n : ℕ) (t : Bool) : Type 0 where
+pub record DecidesThreads (limits : List Limit) (up : List ℕ) (lines : ℕ) (r : List ℕ) (n : ℕ) (t : Bool) : Type 0 where
   pub decides : (m : Model) (last : ℕ → ℕ) (x : Box) → LimitsOf m last limits → AboveEach x lines up r n
       → t ≡ all_below n (thread_fits_at m last x r)
 
@@ -117,12 +117,12 @@ pub record DecidesThreads (limits : Limits) (up : List ℕ) (lines : ℕ) (r : L
 unfoldable pub thread_slots_fit : Model → (ℕ → ℕ) → Box → List ℕ → Bool
 thread_slots_fit m last x r = slots_fit thread_width (thread_words_fit m last x) (threads r) (thread r)
 
-pub record DecidesThreadSlots (limits : Limits) (up : List ℕ) (lines : ℕ) (r : List ℕ) (t : Bool) : Type 0 where
+pub record DecidesThreadSlots (limits : List Limit) (up : List ℕ) (lines : ℕ) (r : List ℕ) (t : Bool) : Type 0 where
   pub decides : (m : Model) (last : ℕ → ℕ) (x : Box) → LimitsOf m last limits → AboveEach x lines up r (threads r)
       → t ≡ thread_slots_fit m last x r
 
 -- ---- records
 
-pub record DecidesRecord (limits : Limits) (up : List ℕ) (lines s : ℕ) (r : List ℕ) (t : Bool) : Type 0 where
+pub record DecidesRecord (limits : List Limit) (up : List ℕ) (lines s : ℕ) (r : List ℕ) (t : Bool) : Type 0 where
   pub decides : (m : Model) (last : ℕ → ℕ) (x : Box) → LimitsOf m last limits → AboveEach x lines up r (threads r) → SubjectsOf m s
       → t ≡ record_fits m last x r

@@ -1,6 +1,8 @@
 #![tactic(auto)]
 // The state rules of one box record, by tables: the limits of the held names in order, and the names bound strictly above each line.
 // Tests of held names are joined by `&`, with no branch.
+// A set of names is a word, since words are joined with & and |; that it has no digit past the names is a clause.
+// Bounds of indices and counts stand in the clauses: a type for each bound would be taken apart at every use.
 ghost use Rattle.std.specs.Prelude.{◌≡◌, ◌<◌, ◌≤◌, length};
 ghost use Rattle.definitions.specs.Limits.{slot_limit};
 ghost use Rattle.definitions.specs.Record as words;
@@ -9,9 +11,20 @@ ghost use Rattle.box_records.specs.Rules.{clear_between, count_below, has_bindin
 ghost use Rattle.box_records.specs.Rules.{DecidesFollows, DecidesType, DecidesSite, DecidesSites, DecidesSiteSlots};
 ghost use Rattle.box_records.specs.Rules.{DecidesBindings, DecidesThread, DecidesThreads, DecidesThreadSlots, DecidesRecord};
 
-use held_limits::{Limits, held_fits};
+use held_limits::{Limit, held_fits};
 use sets::Ascending;
 use state::Held;
+
+// What the records of a box are tested by: the limits of held names, the names that a site may offer, how many lines the box has, and the
+// names bound strictly above each line at which a thread stands.
+#[derive(Clone, Copy)]
+pub struct Rules<'a> {
+    pub limits: &'a [Limit; 64],
+    pub subjects: u64,
+    pub lines: usize,
+    pub up: &'a [u64; 124],
+    pub ghost names: { NamesAbove lines up.now },
+}
 
 // The words of a list from one place up to another are zero: joined, and tested once.
 #[tactic(auto, using(crate::proofs::WordLaws::words))]
@@ -45,7 +58,7 @@ fn is_clear(r: &[u32; 1139], from: usize, to: usize) -> bool
 
 // v may stand behind `before` in a type.
 #[tactic(auto, using(crate::proofs::SiteLaws::site_rules))]
-fn follows(limits: &Limits, before: Held, v: Held) -> bool
+fn follows(limits: &[Limit; 64], before: Held, v: Held) -> bool
     ensures { DecidesFollows limits.now before.0 v.0 result }
 {
     (v.0 == 0) | (held_fits(limits, v) & (before.0 != 0) & (before.0 < v.0))
@@ -53,7 +66,7 @@ fn follows(limits: &Limits, before: Held, v: Held) -> bool
 
 // The type of site i.
 #[tactic(auto, using(crate::proofs::SiteLaws::site_rules))]
-fn type_fits(limits: &Limits, r: &[u32; 1139], i: usize) -> bool
+fn type_fits(limits: &[Limit; 64], r: &[u32; 1139], i: usize) -> bool
     requires { i < slot_limit }
     ensures { DecidesType limits.now (words.site r.now i) result }
 {
@@ -70,7 +83,7 @@ fn type_fits(limits: &Limits, r: &[u32; 1139], i: usize) -> bool
 
 // Site i; subjects: the names of kind 0 or 3.
 #[tactic(auto, using(crate::proofs::SiteLaws::site_rules))]
-fn site_fits(limits: &Limits, subjects: u64, r: &[u32; 1139], i: usize) -> bool
+fn site_fits(limits: &[Limit; 64], subjects: u64, r: &[u32; 1139], i: usize) -> bool
     requires { i < slot_limit }
     ensures { DecidesSite limits.now subjects (words.site r.now i) result }
 {
@@ -97,7 +110,7 @@ fn new_subject(r: &[u32; 1139], i: usize) -> bool
 
 // The first n sites.
 #[tactic(auto, using(crate::proofs::SiteLaws::site_rules))]
-fn sites_fit(limits: &Limits, subjects: u64, r: &[u32; 1139], n: usize) -> bool
+fn sites_fit(limits: &[Limit; 64], subjects: u64, r: &[u32; 1139], n: usize) -> bool
     requires { n ≤ slot_limit }
     ensures { DecidesSites limits.now subjects r.now n result }
 {
@@ -110,7 +123,7 @@ fn sites_fit(limits: &Limits, subjects: u64, r: &[u32; 1139], n: usize) -> bool
 
 // The sites of a record, and the words of those that it lacks.
 #[tactic(auto, using(crate::proofs::SiteLaws::site_rules))]
-fn site_slots_fit(limits: &Limits, subjects: u64, r: &[u32; 1139]) -> bool
+fn site_slots_fit(limits: &[Limit; 64], subjects: u64, r: &[u32; 1139]) -> bool
     ensures { DecidesSiteSlots limits.now subjects r.now result }
 {
     let n = state::sites(r);
@@ -133,7 +146,7 @@ fn bindings(r: &[u32; 1139], t: usize) -> u32
 
 // Each name of a set has a binding in thread t that is in order.
 #[tactic(auto, using(crate::proofs::ThreadLaws::thread_rules))]
-fn bindings_fit(limits: &Limits, r: &[u32; 1139], t: usize, above: u64) -> bool
+fn bindings_fit(limits: &[Limit; 64], r: &[u32; 1139], t: usize, above: u64) -> bool
     requires thread { t < slot_limit }
     requires names { NamesOnly above }
     ensures { DecidesBindings limits.now (words.thread r.now t) above result }
@@ -145,30 +158,28 @@ fn bindings_fit(limits: &Limits, r: &[u32; 1139], t: usize, above: u64) -> bool
     ok
 }
 
-// Thread t of a box with so many lines; up: the names bound strictly above each line. As many bindings as names bound there, each in order.
+// Thread t of a box. As many bindings as names bound strictly above its line, each in order.
 #[tactic(auto, using(crate::proofs::ThreadLaws::thread_rules))]
-fn thread_fits(limits: &Limits, up: &[u64; 124], lines: usize, r: &[u32; 1139], t: usize) -> bool
-    requires thread { t < slot_limit }
-    requires names { NamesAbove lines up.now }
-    ensures { DecidesThread limits.now up.now lines (words.thread r.now t) result }
+fn thread_fits(rules: &Rules<'_>, r: &[u32; 1139], t: usize) -> bool
+    requires { t < slot_limit }
+    ensures { DecidesThread rules.now.limits.now rules.now.up.now rules.now.lines (words.thread r.now t) result }
 {
     let l = state::line(r, t);
-    if lines <= l {
+    if rules.lines <= l {
         return false;
     }
-    let above = up[l];
-    bindings(r, t) == sets::count(above) && bindings_fit(limits, r, t, above)
+    let above = rules.up[l];
+    bindings(r, t) == sets::count(above) && bindings_fit(rules.limits, r, t, above)
 }
 
 // The first n threads.
 #[tactic(auto, using(crate::proofs::ThreadLaws::thread_rules))]
-fn threads_fit(limits: &Limits, up: &[u64; 124], lines: usize, r: &[u32; 1139], n: usize) -> bool
-    requires threads { n ≤ slot_limit }
-    requires names { NamesAbove lines up.now }
-    ensures { DecidesThreads limits.now up.now lines r.now n result }
+fn threads_fit(rules: &Rules<'_>, r: &[u32; 1139], n: usize) -> bool
+    requires { n ≤ slot_limit }
+    ensures { DecidesThreads rules.now.limits.now rules.now.up.now rules.now.lines r.now n result }
 {
     for t in 0..n {
-        if !thread_fits(limits, up, lines, r, t) {
+        if !thread_fits(rules, r, t) {
             return false;
         }
     }
@@ -198,26 +209,18 @@ pub fn lines_used(r: &[u32; 1139], lines: usize) -> usize
 
 // The threads of a record, and the words of those that it lacks.
 #[tactic(auto, using(crate::proofs::ThreadLaws::thread_rules))]
-fn thread_slots_fit(limits: &Limits, up: &[u64; 124], lines: usize, r: &[u32; 1139]) -> bool
-    requires { NamesAbove lines up.now }
-    ensures { DecidesThreadSlots limits.now up.now lines r.now result }
+fn thread_slots_fit(rules: &Rules<'_>, r: &[u32; 1139]) -> bool
+    ensures { DecidesThreadSlots rules.now.limits.now rules.now.up.now rules.now.lines r.now result }
 {
     let n = state::threads(r);
-    n <= 16 && threads_fit(limits, up, lines, r, n) && is_clear(r, 163 + 61 * n, 1139)
+    n <= 16 && threads_fit(rules, r, n) && is_clear(r, 163 + 61 * n, 1139)
 }
 
 // A record whose last stamp is at most the limit.
 #[tactic(auto, using(crate::proofs::RecordLaws::record_rules))]
-pub fn record_fits(
-    limits: &Limits,
-    up: &[u64; 124],
-    lines: usize,
-    subjects: u64,
-    r: &[u32; 1139],
-) -> bool
-    requires names { NamesAbove lines up.now }
+pub fn record_fits(rules: &Rules<'_>, r: &[u32; 1139]) -> bool
     requires stamp { words.stamp r.now ≤ words.stamp_limit }
-    ensures { DecidesRecord limits.now up.now lines subjects r.now result }
+    ensures { DecidesRecord rules.now.limits.now rules.now.up.now rules.now.lines rules.now.subjects r.now result }
 {
-    site_slots_fit(limits, subjects, r) && thread_slots_fit(limits, up, lines, r)
+    site_slots_fit(rules.limits, rules.subjects, r) && thread_slots_fit(rules, r)
 }

@@ -1,15 +1,15 @@
 -- Laws of the runs over the records of one box: sets gathered, and the first record that does not fit. Assumes nothing.
 use mathlib.Core.Path.{◌≡◌, refl, sym, ap, ap₂, ◌∙◌}
-use mathlib.Core.Bool.{Bool, true, false, not}
+use mathlib.Core.Bool.{Bool, false, not}
 use mathlib.Core.List.{List}
 use mathlib.Core.Option.{Option, none, some}
-use Prim.Native.Nat.{ℕ, ◌+◌, ◌-◌, ◌*◌, ◌≤◌, ◌<◌}
+use Prim.Native.Nat.{ℕ, ◌+◌, ◌*◌, ◌≤◌, ◌<◌}
 use native.Mathlib.Nat.{le_refl}
 use native.Mathlib.Numerals.{add-one}
 use native.Mathlib.Omega.{arith}
 use borrow.Author.Rules.{rules}
 use lib.ListN.{length}
-use Rattle.definitions.specs.Bounded.{◌or◌, ◌is◌, ◌below◌, any_below, some_if}
+use Rattle.definitions.specs.Bounded.{◌or◌, ◌is◌, any_below, some_if}
 use Rattle.definitions.specs.Sets.{has}
 use Rattle.definitions.specs.Words.{block_of}
 use Rattle.definitions.specs.Answer.{Refusal, refusal}
@@ -24,7 +24,7 @@ use Rattle.records.specs.NameSets.{SetOf}
 use Rattle.record_rules.specs.Rules.{KindsIn, tree_ok, DecidesSite, DecidesLine, DecidesTree}
 use Rattle.records.specs.Places.{LinesAt, SitesAt, line_record_at}
 use Rattle.box_runs.specs.Runs.{box_misfit, line_fit, tree_fit, subject_in, bound_in, child_in}
-use Rattle.record_rules.specs.LineSets.{line_is, insert_children, LineSetOf}
+use Rattle.record_rules.specs.LineSets.{insert_children, LineSetOf}
 use Rattle.records.proofs.PlaceLaws.{line-there, lines_of_box, line-at, line-count, site-at}
 
 -- ---- one more
@@ -63,15 +63,11 @@ module _ (image : List ℕ) (k : ℕ) where
     at = λ m l. f m ∙ ap₂ ◌or◌ (p.at m l) (g.at m l ∙ ap (λ (y : Line). binds y m) e) ∙ sym (any_more i (λ i. binds (line_record_at image k i) m));
   }
 
-  pub child_start : LineSetOf (record { low = 0; high = 0 }) (child_in image k 0)
-  unfolding child_in line_is
-  child_start = record { at = λ c l. empty (c below 64) c ∙ sym (any_zero (λ i. has_child (line_record_at image k i) c)) }
-    where
-      empty : (t : Bool) (c : ℕ) → ◌≡◌ {A = Bool} (elim t [ true ↦ has 0 c | false ↦ has 0 (c - 64) ]) false
-      empty true c = has-none c
-      empty false c = has-none (c - 64)
+  pub child_start : LineSetOf (record { 0 = 0 }) (child_in image k 0)
+  unfolding child_in
+  child_start = record { at = λ c l. has-none c ∙ sym (any_zero (λ i. has_child (line_record_at image k i) c)) }
 
-  pub child_turn : (i : ℕ) (s r : LineSet) (x : Line) → LineSetOf s (child_in image k i) → x ≡ line_record_at image k i → LineSetOf r (insert_children s.low s.high x)
+  pub child_turn : (i : ℕ) (s r : LineSet) (x : Line) → LineSetOf s (child_in image k i) → x ≡ line_record_at image k i → LineSetOf r (insert_children s.0 x)
       → LineSetOf r (child_in image k (i + 1))
   unfolding child_in insert_children
   child_turn i s r x p e f = record {
@@ -115,20 +111,23 @@ pub record SiteRun (image : List ℕ) (b n i used : ℕ) : Type 0 where
 pub site-start : (image : List ℕ) (b n used : ℕ) → SetOf used (used_before (model_of image) b 0) → SiteRun image b n 0 used
 site-start image b n used s = record { records_fit = records_start 6 n (site_fits (model_of image)) b; used_up = s }
 
-module _ (image : List ℕ) (b k n i : ℕ) (s : Site) (free used : ℕ) (t : Bool) (p : SiteRun image b n i used) (h : SitesAt image b k n) (l : i < n)
-    (e : s ≡ site_record (block_of image k) i) (few : length (model_of image).kinds ≤ 60) (frees : SetOf free (is_free (model_of image).kinds)) (decided : DecidesSite s free used t) where
+module _ (image block : List ℕ) (b k n i : ℕ) (s : Site) (free used : ℕ) (t : Bool) (p : SiteRun image b n i used) (h : SitesAt image b k n) (l : i < n)
+    (g : block ≡ block_of image k) (f : s ≡ site_record block i) (few : length (model_of image).kinds ≤ 60) (frees : SetOf free (is_free (model_of image).kinds)) (decided : DecidesSite s free used t) where
+  read : s ≡ site_at (box_at (model_of image) b) i
+  read = f ∙ ap (λ (x : List ℕ). site_record x i) g ∙ site-at image b k n h i l
+
   judged : t ≡ site_fits (model_of image) b i
-  judged = decided.decides (model_of image) b i few frees p.used_up (e ∙ site-at image b k n h i l)
+  judged = decided.decides (model_of image) b i few frees p.used_up read
 
   pub site-turn : (r : ℕ) → none ≡ some_if (not t) (refusal 6 b i) → ((m : ℕ) → m < 64 → has r m ≡ (has used m or s.subject is m)) → SiteRun image b n (i + 1) r
   unfolding used_before
-  site-turn r q f = record {
+  site-turn r q w = record {
     records_fit = records_turn 6 n (site_fits (model_of image)) b i t p.records_fit l judged q;
     used_up = record {
-      at = λ m g.
+      at = λ m v.
           let before = any_below b (λ c. any_below (site_count (box_at (model_of image) c)) (λ j. (site_at (box_at (model_of image) c) j).subject is m)) in
           let here : ℕ → Bool = λ j. (site_at (box_at (model_of image) b) j).subject is m in
-          f m g ∙ ap₂ (λ (x : Bool) (y : Site). x or y.subject is m) (p.used_up.at m g) (e ∙ site-at image b k n h i l)
+          w m v ∙ ap₂ (λ (x : Bool) (y : Site). x or y.subject is m) (p.used_up.at m v) read
           ∙ or_assoc before (any_below i here) (here i) ∙ ap (λ (x : Bool). before or x) (sym (any_more i here));
     };
   }
@@ -158,7 +157,7 @@ pub record TreeRun (image : List ℕ) (b k n i : ℕ) (seen : LineSet) : Type 0 
   pub records_fit : RecordsFit 8 n (tree_fit (model_of image)) b i
   pub children : LineSetOf seen (child_in image k i)
 
-pub tree-start : (image : List ℕ) (b k n : ℕ) → TreeRun image b k n 0 (record { low = 0; high = 0 })
+pub tree-start : (image : List ℕ) (b k n : ℕ) → TreeRun image b k n 0 (record { 0 = 0 })
 tree-start image b k n = record { records_fit = records_start 8 n (tree_fit (model_of image)) b; children = child_start image k }
 
 tree_fits_lem : (x : Box) (l : Line) (i n : ℕ) → n ≡ line_count x → l ≡ line_at x i
@@ -183,7 +182,7 @@ module _ (image : List ℕ) (b k n i : ℕ) (x : Line) (seen all : LineSet) (t :
       decided.decides _ _ h.there.few l (children_at image b k n i seen h (omega arith) p.children) (children_at image b k n n all h (le_refl n) children)
       ∙ tree_fits_lem (box_at (model_of image) b) x i n (line-count image b k n h) (q ∙ line-at image b k n h i l)
 
-  pub tree-turn : (r : LineSet) → none ≡ some_if (not t) (refusal 8 b i) → LineSetOf r (insert_children seen.low seen.high x) → TreeRun image b k n (i + 1) r
+  pub tree-turn : (r : LineSet) → none ≡ some_if (not t) (refusal 8 b i) → LineSetOf r (insert_children seen.0 x) → TreeRun image b k n (i + 1) r
   tree-turn r z f = record {
     records_fit = records_turn 8 n (tree_fit (model_of image)) b i t p.records_fit l tree_judged z;
     children = child_turn image k i seen r x p.children q f;

@@ -7,8 +7,8 @@ ghost use Rattle.definitions.specs.Clauses as clauses;
 ghost use Rattle.definitions.specs.ShutOff.{question, refused_block};
 ghost use Rattle.definitions.specs.Calls as calls;
 ghost use Rattle.blocks.specs.Answers.{of_block};
-ghost use Rattle.deciding.specs.Numbers.{move_of};
-ghost use Rattle.runs.specs.Begins.{moves_in};
+ghost use Rattle.state.specs.Moves.{move_of};
+ghost use Rattle.runs.specs.Moves.{moves_in};
 ghost use Rattle.packing.specs.Packed.{pack_verdict, pack_reply, pack_call, pack_part};
 ghost use Rattle.capi.specs.Copied.{or_zero, copied, pack_copied};
 
@@ -77,7 +77,14 @@ pub extern "C" fn bm_step(
     ensures answer { result ≡ pack_call (calls.step model.now state.old (move_of kind b t c u)).answer }
     ensures words { state.new ≡ (calls.step model.now state.old (move_of kind b t c u)).words }
 {
-    packing::of_call(reduction::step(model, state, kind, b, t, c, u))
+    let m = Move {
+        kind,
+        boxno: b,
+        thread: t,
+        boxno2: c,
+        thread2: u,
+    };
+    packing::of_call(reduction::step(model, state, m))
 }
 
 // The moves of a list in turn, each with its answer.
@@ -115,6 +122,7 @@ pub extern "C" fn bm_copy_refused_block<'a>(
     let part = analysis::refused_block(model, estimate);
     let n = part.len();
     if out.len() < n {
+        // The C interface's tag for no room.
         return 7;
     }
     out[..n].copy_from_slice(part);

@@ -9,7 +9,8 @@ use native.Mathlib.Nat.{not-suc-le-zero}
 use native.Mathlib.Omega.{arith}
 use borrow.Author.Rules.{rules}
 use lib.Dec.{T}
-use lib.ListN.{length, get_or}
+use lib.ListN.{length, get_or, take, length-take}
+use lib.Seq.{get_or-take}
 use Rattle.definitions.specs.Bounded.{◌is◌, any_below}
 use Rattle.definitions.specs.Sets.{has, for_each, within}
 use Rattle.definitions.specs.Model as paper
@@ -23,6 +24,7 @@ use Rattle.records.specs.Records.{line_in}
 use Rattle.records.specs.Places.{line_record_at}
 use Rattle.sets.specs.Ascending.{LowestOf}
 use Rattle.sets.specs.Names.{NamesOnly}
+use Rattle.sets.proofs.Each.{some_left}
 use Rattle.sets.proofs.Walk.{EachLeft, each_start, each_turn, each_stop, each_end}
 use Rattle.clauses.specs.Known.{LineOfNames}
 use Rattle.clauses.proofs.Members.{left_62, names_rho, rho_names, box_62, names_62, second_62, box_there, boxed}
@@ -124,16 +126,13 @@ module _ (model : List ℕ) (e : Estimate) (boxes b k : ℕ) (listed : List ℕ)
   pub list_start : ListPassed model e boxes b k listed 0
   list_start = record { each = λ j l. absurd (not-suc-le-zero l) }
 
-  pub list_no : (c : ℕ) → ShowsList model e boxes b k listed c false
-  list_no c = record { shows = λ t. absurd t }
+  pub list_no : ShowsList model e boxes b k listed false
+  list_no = record { shows = λ t. absurd t }
 
-  pub list_end : (m c : ℕ) → ListPassed model e boxes b k listed m → c ≤ m → ShowsList model e boxes b k listed c true
-  list_end m c p h = record { shows = λ _ j l. p.each j (omega arith) }
+  pub list_end : (m : ℕ) → ListPassed model e boxes b k listed m → length listed ≤ m → ShowsList model e boxes b k listed true
+  list_end m p h = record { shows = λ _ j l. p.each j (omega arith) }
 
-module _ (model : List ℕ) (k c m : ℕ) (listed : List ℕ) (f : ListOfNames model k listed c) (h : m < c) where
-  pub list_room : m < 128
-  list_room = omega (arith, f.few)
-
+module _ (model : List ℕ) (k m : ℕ) (listed : List ℕ) (f : ListOfNames model k listed) (h : m < length listed) where
   pub list_there : (i : ℕ) → i ≡ get_or listed m 0 → 512 * (k + 1 + i / 31 + 1) ≤ length model
   list_there i e = rw e (f.there m h)
 
@@ -146,11 +145,16 @@ module _ (model estimate : List ℕ) (k n c : ℕ) (ops sent listed : List ℕ) 
   pub ops_named : OpsOfNames ops
   ops_named = record { each = g.names }
 
-  pub list_named : ListOfNames model k listed c
+  taken : (m : ℕ) → m < length (take c listed) → m < c
+  taken m l = omega (arith, length-take c listed)
+
+  same : (m : ℕ) → m < length (take c listed) → get_or (take c listed) m 0 ≡ get_or listed m 0
+  same m l = get_or-take c listed m 0 (taken m l)
+
+  pub list_named : ListOfNames model k (take c listed)
   list_named = record {
-    few = omega (arith, g.few, there.there.few);
-    there = λ m l. there.there.there (get_or listed m 0) (g.inside m l);
-    each = λ m l. there.each (get_or listed m 0) (g.inside m l);
+    there = λ m l. rw (same m l) (there.there.there (get_or listed m 0) (g.inside m (taken m l)));
+    each = λ m l. rw (same m l) (there.each (get_or listed m 0) (g.inside m (taken m l)));
   }
 
   module _ (boxes b : ℕ) where
@@ -215,30 +219,29 @@ module _ (model estimate : List ℕ) (k n c : ℕ) (ops sent listed : List ℕ) 
 
     pub lines_yes : (named outs r : Bool) → ShowsNames (estimate_of estimate) b ops named → named ≡ true
         → outs ≡ for_each (get_or ops 4 0) (λ p. may_send (estimate_of estimate) b ((estimate_of estimate).rho p) (get_or sent p 0)) → outs ≡ true
-        → ShowsList model (estimate_of estimate) boxes b k listed c r → ShowsLines model (estimate_of estimate) boxes b k n r
+        → length listed ≡ 128 → ShowsList model (estimate_of estimate) boxes b k (take c listed) r → ShowsLines model (estimate_of estimate) boxes b k n r
     unfolding l
-    lines_yes named outs r names tn eouts to list = record {
-      shows = λ t i h. one_line (names.shows (of_true tn)) (of_true (sym eouts ∙ to)) (list.shows t) i h;
+    lines_yes named outs r names tn eouts to long list = record {
+      shows = λ t i h. one_line (names.shows (of_true tn)) (of_true (sym eouts ∙ to)) (λ m a.
+          let z : m < length (take c listed) = omega (arith, length-take c listed, long, g.few, there.there.few) in
+          rw (same m z) at (list.shows t m z)) i h;
     }
 
 -- ---- a walk over the channels
 
 module _ (p : ℕ → Bool) (s left n t : ℕ) (b : Bool) (w : EachLeft p s left) (d : LowestOf left n t) (e : b ≡ p n) where
-  some-left : left ≡ 0 → ⊥
-  some-left z = omega (arith, d.some_left)
-
   pub channel_stop : b ≡ false → false ≡ for_each s p
-  channel_stop f = each_stop p s left n b w some-left d.lowest e f
+  channel_stop f = each_stop p s left n b w (some_left left n t d) d.lowest e f
 
   pub channel_turn : b ≡ true → EachLeft p s t
-  channel_turn f = each_turn p s left n b w some-left d.lowest e t d.others f
+  channel_turn f = each_turn p s left n b w (some_left left n t d) d.lowest e t d.others f
 
-pub ruleset named = (rules, ops_62, names_no, names_yes)
+pub ruleset named = (rules, box_62, second_62, ops_62, names_no, names_yes)
 
-pub ruleset outputs = (rules, left_62, each_end, names_rho, box_there)
+pub ruleset outputs = (rules, left_62, each_end, names_rho, box_there, box_62, boxed)
 
 pub ruleset inputs = (rules, rho_names, box_62, names_62, second_62, all_as, listed_expose, listed_others, listed_asks, not-expose, type_names)
 
-pub ruleset lists = (rules, list_no, list_end, list_room, list_there, list_names)
+pub ruleset lists = (rules, list_no, list_end, list_there, list_names)
 
 pub ruleset shown = (rules, ops_named, list_named, lines_no, lines_yes, ops_62, boxed, second_62)

@@ -15,11 +15,10 @@ use Rattle.sharing.specs.Shared.{GatheredOf}
 pub record OpsOfNames (ops : List ℕ) : Type 0 where
   pub each : (o : ℕ) → o < 16 → NamesOnly (get_or ops o 0)
 
--- the c lines of a list are there, each with names below 60
-pub record ListOfNames (model : List ℕ) (k : ℕ) (listed : List ℕ) (c : ℕ) : Type 0 where
-  pub few : c ≤ 128
-  pub there : (m : ℕ) → m < c → 512 * (k + 1 + get_or listed m 0 / 31 + 1) ≤ length model
-  pub each : (m : ℕ) → m < c → LineOfNames (line_record_at model k (get_or listed m 0))
+-- the lines of a list are there, each with names below 60
+pub record ListOfNames (model : List ℕ) (k : ℕ) (listed : List ℕ) : Type 0 where
+  pub there : (m : ℕ) → m < length listed → 512 * (k + 1 + get_or listed m 0 / 31 + 1) ≤ length model
+  pub each : (m : ℕ) → m < length listed → LineOfNames (line_record_at model k (get_or listed m 0))
 
 pub record NotExpose (l : Line) : Type 0 where
   pub other : l.op ≡ expose → ⊥
@@ -60,8 +59,8 @@ module _ (e : Estimate) where
     pub nine : l.op ≡ unhide → clause9 e b l ≡ none
 
 -- the lines of a list
-pub record ShowsList (model : List ℕ) (e : Estimate) (boxes b k : ℕ) (listed : List ℕ) (c : ℕ) (r : Bool) : Type 0 where
-  pub shows : T r → (m : ℕ) → m < c → ListedPass e boxes b (line_record_at model k (get_or listed m 0))
+pub record ShowsList (model : List ℕ) (e : Estimate) (boxes b k : ℕ) (listed : List ℕ) (r : Bool) : Type 0 where
+  pub shows : T r → (m : ℕ) → m < length listed → ListedPass e boxes b (line_record_at model k (get_or listed m 0))
 
 -- the n lines after block k
 pub record ShowsLines (model : List ℕ) (e : Estimate) (boxes b k n : ℕ) (r : Bool) : Type 0 where

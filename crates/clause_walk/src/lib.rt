@@ -1,47 +1,53 @@
 #![tactic(auto)]
 // One walk over a box's lines that may only show that none of them breaks a clause: each clause is tested for what was gathered of the lines.
 // It names no line.
+// A set of names is a word, since words are joined with & and |; that it has no digit past the names is a clause.
+// Bounds of indices and counts stand in the clauses: a type for each bound would be taken apart at every use.
+// A model, its block and the count of lines, and no Lines: that the names of lines are below 60 is known of them besides.
 ghost use Rattle.std.specs.Prelude.{◌≡◌, ◌<◌, ◌≤◌, get_or, IfSome};
 ghost use Rattle.definitions.specs.Sets as names;
 ghost use Rattle.definitions.specs.Estimate.{estimate_of};
 ghost use Rattle.records.specs.Records.{line_in};
 ghost use Rattle.sets.specs.Names.{NamesOnly};
-ghost use Rattle.clauses.specs.Known.{BoxOfNames, LineOfNames};
 ghost use Rattle.sharing.specs.Shared.{Least, sent_by_others, may_send, GatheredOf};
 ghost use Rattle.line_gather.specs.Gathered.{LinesOfNames};
 ghost use Rattle.clause_walk.specs.Lines.{OpsOfNames, ListOfNames, NotExpose, ShowsNames, PassesWith, ShowsList, ShowsLines};
 
+use clauses::NamedLine;
+use estimate::Estimate;
+use records::Op;
 use records::inside::line;
-use records::{Line, Op};
 use sets::Ascending;
 use sharing::{Gathered, Tables};
 
 // Clause 3, the names of clause 7, and clauses 8 and 9.
 #[tactic(auto, using(crate::proofs::Shows::named))]
-fn names_pass(estimate: &[u8], b: usize, ops: &[u64; 16]) -> bool
-    requires there { BoxOfNames estimate.now b }
+fn names_pass(e: Estimate<'_>, b: usize, ops: &[u64; 16]) -> bool
+    requires box_in { b < e.boxes }
     requires names { OpsOfNames ops.now }
-    ensures { ShowsNames (estimate_of estimate.now) b ops.now result }
+    ensures { ShowsNames (estimate_of e.entry.image.now) b ops.now result }
 {
-    let shown = estimate::shown(estimate, b);
-    let hidden = estimate::hidden(estimate, b);
-    clauses::own_within(estimate, ops[3])
-        && clauses::own_within(estimate, ops[6])
-        && sets::is_subset(ops[6], shown)
-        && clauses::types_within(estimate, ops[7], hidden)
-        && clauses::types_within(estimate, ops[8], shown)
+    let image = e.image;
+    let shown = e.shown(b);
+    let hidden = e.hidden(b);
+    let exposed = ops[Op::Expose as usize];
+    clauses::own_within(image, ops[Op::Restriction as usize])
+        && clauses::own_within(image, exposed)
+        && sets::is_subset(exposed, shown)
+        && clauses::types_within(image, ops[Op::Hide as usize], hidden)
+        && clauses::types_within(image, ops[Op::Unhide as usize], shown)
 }
 
 // Clause 4, channel by channel: on are the channels.
 #[tactic(auto, using(crate::proofs::Shows::outputs))]
-fn outputs_pass(estimate: &[u8], boxes: usize, b: usize, on: u64, sent: &[u64; 64]) -> bool
-    requires there { BoxOfNames estimate.now b }
+fn outputs_pass(e: Estimate<'_>, b: usize, on: u64, sent: &[u64; 64]) -> bool
+    requires box_in { b < e.boxes }
     requires names { NamesOnly on }
-    ensures { result ≡ names.for_each on (λ p. may_send (estimate_of estimate.now) b ((estimate_of estimate.now).rho p) (get_or sent.now p 0)) }
+    ensures { result ≡ names.for_each on (λ p. may_send (estimate_of e.entry.image.now) b ((estimate_of e.entry.image.now).rho p) (get_or sent.now p 0)) }
 {
     let mut g = sharing::nothing();
     for p in Ascending(on) {
-        g = sharing::for_outputs(estimate, boxes, b, estimate::rho(estimate, p), g);
+        g = sharing::for_outputs(e.image, e.boxes, b, e.rho(p), g);
         if !sets::is_subset(sent[usize::from(p.0)], g.most) {
             return false;
         }
@@ -52,60 +58,67 @@ fn outputs_pass(estimate: &[u8], boxes: usize, b: usize, on: u64, sent: &[u64; 6
 // Clauses 5 and 6 at an input; others: all that other boxes may send, which is more than clause 6 asks. What they ask for the sets that it was
 // gathered for, or None where the line does not pass.
 #[tactic(auto, using(crate::proofs::Shows::inputs))]
-fn input_passes(t: &Tables<'_>, b: usize, others: u64, l: Line, g: Gathered) -> Option<Gathered>
-    requires box_in { b < t.now.boxes }
-    requires line { LineOfNames (line_in l) }
-    requires input { NotExpose (line_in l) }
-    requires others { Least others (sent_by_others (estimate_of t.now.estimate.now) t.now.boxes b) }
-    requires gathered { GatheredOf (estimate_of t.now.estimate.now) t.now.boxes b g }
-    ensures { IfSome result (PassesWith (estimate_of t.now.estimate.now) t.now.boxes b (line_in l)) }
+fn input_passes(
+    t: &Tables<'_>,
+    b: usize,
+    others: u64,
+    l: NamedLine,
+    g: Gathered,
+) -> Option<Gathered>
+    requires box_in { b < t.now.estimate.boxes }
+    requires input { NotExpose (line_in l.line) }
+    requires others { Least others (sent_by_others (estimate_of t.now.estimate.image.now) t.now.estimate.boxes b) }
+    requires gathered { GatheredOf (estimate_of t.now.estimate.image.now) t.now.estimate.boxes b g }
+    ensures { IfSome result (PassesWith (estimate_of t.now.estimate.image.now) t.now.estimate.boxes b (line_in l.line)) }
 {
-    let s = estimate::rho(t.estimate, l.name1);
-    let five = sharing::for_inputs(t.estimate, t.boxes, b, s, g);
-    if !clauses::takes(t.estimate, five.all, l) {
+    let e = t.estimate;
+    let s = e.rho(l.line.name1);
+    let five = sharing::for_inputs(e.image, e.boxes, b, s, g);
+    if !clauses::takes(e.image, five.all, l) {
         return None;
     }
-    if clauses::takes(t.estimate, others, l) {
+    if clauses::takes(e.image, others, l) {
         return Some(five);
     }
     let six = t.for_partners(b, s, five);
-    clauses::takes(t.estimate, six.asks, l).then_some(six)
+    clauses::takes(e.image, six.asks, l).then_some(six)
 }
 
 // A line of the list: the type of an expose, or an input.
 #[tactic(auto, using(crate::proofs::Shows::inputs))]
-fn listed_passes(t: &Tables<'_>, b: usize, others: u64, l: Line, g: Gathered) -> Option<Gathered>
-    requires box_in { b < t.now.boxes }
-    requires line { LineOfNames (line_in l) }
-    requires others { Least others (sent_by_others (estimate_of t.now.estimate.now) t.now.boxes b) }
-    requires gathered { GatheredOf (estimate_of t.now.estimate.now) t.now.boxes b g }
-    ensures { IfSome result (PassesWith (estimate_of t.now.estimate.now) t.now.boxes b (line_in l)) }
+fn listed_passes(
+    t: &Tables<'_>,
+    b: usize,
+    others: u64,
+    l: NamedLine,
+    g: Gathered,
+) -> Option<Gathered>
+    requires box_in { b < t.now.estimate.boxes }
+    requires others { Least others (sent_by_others (estimate_of t.now.estimate.image.now) t.now.estimate.boxes b) }
+    requires gathered { GatheredOf (estimate_of t.now.estimate.image.now) t.now.estimate.boxes b g }
+    ensures { IfSome result (PassesWith (estimate_of t.now.estimate.image.now) t.now.estimate.boxes b (line_in l.line)) }
 {
-    if l.op != Op::Expose as u8 {
+    let e = t.estimate;
+    if l.line.op != Op::Expose as u8 {
         return input_passes(t, b, others, l, g);
     }
-    let types = estimate::eps(t.estimate, b, l.name1);
-    clauses::types_within(t.estimate, l.names, types).then_some(g)
+    let types = e.eps(b, l.line.name1);
+    clauses::types_within(e.image, l.line.names, types).then_some(g)
 }
 
-// Clauses 5, 6 and 7 at the c lines of the list.
+// Clauses 5, 6 and 7 at the lines of the list.
 #[tactic(auto, using(crate::proofs::Shows::lists))]
-fn list_passes(
-    model: &[u8],
-    t: &Tables<'_>,
-    k: usize,
-    b: usize,
-    listed: &[u8; 128],
-    c: usize,
-) -> bool
-    requires box_in { b < t.now.boxes }
-    requires lines { ListOfNames model.now k listed.now c }
-    ensures { ShowsList model.now (estimate_of t.now.estimate.now) t.now.boxes b k listed.now c result }
+fn list_passes(model: &[u8], t: &Tables<'_>, k: usize, b: usize, listed: &[u8]) -> bool
+    requires box_in { b < t.now.estimate.boxes }
+    requires lines { ListOfNames model.now k listed.now }
+    ensures { ShowsList model.now (estimate_of t.now.estimate.image.now) t.now.estimate.boxes b k listed.now result }
 {
-    let others = sharing::sent_by_others(t.estimate, &t.sends, t.boxes, b);
+    let others = sharing::sent_by_others(t.estimate, &t.each, b);
     let mut g = sharing::nothing();
-    for m in 0..c {
-        let l = line(model, k, usize::from(listed[m]));
+    for i in listed {
+        let l = NamedLine {
+            line: line(model, k, usize::from(*i)),
+        };
         let Some(passed) = listed_passes(t, b, others, l, g) else {
             return false;
         };
@@ -117,15 +130,16 @@ fn list_passes(
 // Whether one walk shows that none of the n lines after block k, the lines of box b, breaks a clause.
 #[tactic(auto, using(crate::proofs::Shows::shown))]
 pub fn lines_pass(model: &[u8], t: &Tables<'_>, k: usize, b: usize, n: usize) -> bool
-    requires box_in { b < t.now.boxes }
+    requires box_in { b < t.now.estimate.boxes }
     requires lines { LinesOfNames model.now k n }
-    ensures { ShowsLines model.now (estimate_of t.now.estimate.now) t.now.boxes b k n result }
+    ensures { ShowsLines model.now (estimate_of t.now.estimate.image.now) t.now.estimate.boxes b k n result }
 {
+    let e = t.estimate;
     let mut ops = [0u64; 16];
     let mut sent = [0u64; 64];
     let mut listed = [0u8; 128];
-    let c = line_gather::gather(model, t.estimate, k, n, &mut ops, &mut sent, &mut listed);
-    names_pass(t.estimate, b, &ops)
-        && outputs_pass(t.estimate, t.boxes, b, ops[4], &sent)
-        && list_passes(model, t, k, b, &listed, c)
+    let c = line_gather::gather(model, e.image, k, n, &mut ops, &mut sent, &mut listed);
+    names_pass(e, b, &ops)
+        && outputs_pass(e, b, ops[Op::Output as usize], &sent)
+        && list_passes(model, t, k, b, &listed[..c])
 }

@@ -1,3 +1,3 @@
 pub mod Members
 pub mod Tests
-pub mod Rows
+pub mod Each

@@ -17,7 +17,8 @@ use Rattle.sets.specs.Names.{NamesOnly}
 use Rattle.sets.specs.Ascending.{LowestOf}
 use Rattle.sets.proofs.Walk.{Left, left_name}
 use Rattle.subsets.proofs.Walk.{ShortLeft, short_start, short_turn, short_stop, short_end}
-use Rattle.clauses.specs.Known.{BoxOfNames, EstimateOfNames, LineOfNames, MetWhere}
+use Rattle.estimate.specs.Known.{BoxOfNames, EstimateOfNames}
+use Rattle.clauses.specs.Known.{LineOfNames, MetWhere}
 
 -- the next member of a set of names
 pub left_62 : (s left n t : ℕ) → NamesOnly s → Left s left → LowestOf left n t → n < 62

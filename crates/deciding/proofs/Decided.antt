@@ -1,10 +1,10 @@
 -- Laws of the numbers with which moves are refused: each test by what the code finds. Assumes nothing.
 use mathlib.Core.Path.{◌≡◌, refl, ap, sym, ◌∙◌}
 use mathlib.Core.Logic.{◌≢◌}
-use mathlib.Core.Bool.{Bool, true, false}
+use mathlib.Core.Bool.{Bool, true, false, ◌&&◌}
 use mathlib.Core.List.{List, []}
 use mathlib.Core.Option.{Option, none, some}
-use Prim.Native.Nat.{ℕ, ◌≤◌, ◌<◌}
+use Prim.Native.Nat.{ℕ, suc, ◌≤◌, ◌<◌}
 use native.Mathlib.Omega.{arith}
 use lib.Dec.{T, eqb}
 use Rattle.definitions.specs.Bounded.{◌and◌, ◌is◌, ◌isnt◌, ◌below◌}
@@ -14,7 +14,7 @@ use Rattle.definitions.specs.Record.{stamp_limit, stamp, threads, sites, thread,
 use Rattle.definitions.specs.Moves as moves
 use Rattle.definitions.specs.Moves.{Outcome, refused, made, need, on_made, site_with, found, at, thread_line, onward, onward_with, value1, value2, at_line, drop_move, spread_move, new_move, copy_move, expose_move, turn_move, intra_move}
 use Rattle.definitions.specs.Calls.{outcome_number}
-use Rattle.definitions.proofs.Bounded.{and_iff, is_iff, isnt_iff, below_iff, true_of, of_true, false_of, not-false}
+use Rattle.definitions.proofs.Bounded.{and_is, and_iff, is_iff, isnt_iff, below_iff, true_of, of_true, false_of, not-false}
 use Rattle.records.specs.declared.Line.{Line}
 use Rattle.records.specs.Records.{line_in}
 use Rattle.deciding.specs.declared.Blocked.{Blocked}
@@ -57,6 +57,15 @@ blocked_not Unfit e = omega (arith, e)
 blocked_not Private e = omega (arith, e)
 blocked_not Full e = omega (arith, e)
 blocked_not Spent e = omega (arith, e)
+
+-- a test in front of others, as the code gives its number: refused, or as what comes next
+pub need_stop : {A : Type 0} (n : Blocked) (b : Bool) (m : ℕ) (o : Outcome A) → blocked_number n ≡ unless b m → blocked_number n ≡ outcome_number (need b m o)
+need_stop n true m o e = absurd (blocked_not n (sym e))
+need_stop n false m o e = e
+
+pub need_met : (b : Bool) (m : ℕ) → 0 ≡ unless b (suc m) → T b
+need_met true m e = tt
+need_met false m e = absurd (omega (arith, e))
 
 -- ---- room for a thread, and a stamp
 
@@ -221,64 +230,64 @@ module _ (kinds : List ℕ) (x : Box) (r : List ℕ) (op before t v : ℕ) (l : 
       line_goes kinds x r t op 16 _ z
       (need_no (found (site_with r (value1 kinds x r t) before)) 16 passed (not-false (sym (there none w))))
 
+-- ---- the lines of an input and an output, as they are read
+
+module _ (l k : Line) (n m : model.Line) (q : line_in l ≡ n) (p : line_in k ≡ m) where
+  -- the lines that are read are those of the threads
+  same-lines : (l.op is input and k.op is output) ≡ (n.op is input and m.op is output)
+  same-lines = ap (λ (z : model.Line). z.op is input and k.op is output) q ∙ ap (λ (z : model.Line). n.op is input and z.op is output) p
+
+  module _ {A : Type 0} (o : Outcome A) where
+    pub lines_stop : (b : Blocked) → blocked_number b ≡ unless (l.op is input and k.op is output) 14
+        → blocked_number b ≡ outcome_number (need (n.op is input and m.op is output) 14 o)
+    lines_stop b e = need_stop b (n.op is input and m.op is output) 14 o (e ∙ ap (λ (z : Bool). unless z 14) same-lines)
+
+    pub lines_go : (v : ℕ) → 0 ≡ unless (l.op is input and k.op is output) 14 → v ≡ outcome_number o
+        → v ≡ outcome_number (need (n.op is input and m.op is output) 14 o)
+    lines_go v z e =
+        e ∙ sym (need_yes (n.op is input and m.op is output) 14 o
+        (need_met (n.op is input and m.op is output) 13 (z ∙ ap (λ (y : Bool). unless y 14) same-lines)))
+
+pub lines_met : (a b : ℕ) (t : Bool) → t ≡ (eqb a 5 && eqb b 4) → t ≡ true → 0 ≡ unless (a is input and b is output) 14
+unfolding ◌is◌
+lines_met a b t e d = ap (λ (z : Bool). unless z 14) (sym d ∙ e ∙ and_is (eqb a 5) (eqb b 4))
+
+pub lines_wrong : (a b : ℕ) (t : Bool) → t ≡ (eqb a 5 && eqb b 4) → t ≡ false → 14 ≡ unless (a is input and b is output) 14
+unfolding ◌is◌
+lines_wrong a b t e d = ap (λ (z : Bool). unless z 14) (sym d ∙ e ∙ and_is (eqb a 5) (eqb b 4))
+
 -- ---- intra
 
 module _ (kinds : List ℕ) (x : Box) (r : List ℕ) (t u : ℕ) where
-  module _ (l : Line) (q : line_in l ≡ thread_line kinds x r t) where
-    pub channel_wrong : l.op ≢ 5 → 14 ≡ channel_number kinds x r t u
+  module _ (l k : Line) (q : line_in l ≡ thread_line kinds x r t) (p : line_in k ≡ thread_line kinds x r u) where
+    pub channel_wrong : (n : Blocked) → blocked_number n ≡ unless (l.op is input and k.op is output) 14 → blocked_number n ≡ channel_number kinds x r t u
     unfolding channel_number
-    channel_wrong h =
-        need_no ((thread_line kinds x r t).op is input and (thread_line kinds x r u).op is output) 14 _
-        (λ p. h (ap (λ (k : model.Line). k.op) q ∙ (is_iff (thread_line kinds x r t).op input).0
-        ((and_iff ((thread_line kinds x r t).op is input) ((thread_line kinds x r u).op is output)).0 p).0))
+    channel_wrong n e = lines_stop l k (thread_line kinds x r t) (thread_line kinds x r u) q p _ n e
 
-    module _ (k : Line) (p : line_in k ≡ thread_line kinds x r u) where
-      pub channel_wrong2 : k.op ≢ 4 → 14 ≡ channel_number kinds x r t u
+    module _ (v w : ℕ) (z : 0 ≡ unless (l.op is input and k.op is output) 14) (d : v ≡ moves.value_in kinds (thread r t) l.name1.0)
+        (e : w ≡ moves.value_in kinds (thread r u) k.name1.0) where
+      first : v ≡ value1 kinds x r t
+      unfolding value1
+      first = d ∙ ap (λ (n : model.Line). moves.value_in kinds (thread r t) n.name1) q
+
+      second : w ≡ value1 kinds x r u
+      unfolding value1
+      second = e ∙ ap (λ (n : model.Line). moves.value_in kinds (thread r u) n.name1) p
+
+      matched : eqb v w ≡ (value1 kinds x r t is value1 kinds x r u)
+      unfolding ◌is◌
+      matched = ap (λ (n : ℕ). eqb n w) first ∙ ap (λ (n : ℕ). eqb (value1 kinds x r t) n) second
+
+      next : (a : ℕ) → a ≡ unless (value1 kinds x r t is value1 kinds x r u) 15 → a ≡ channel_number kinds x r t u
       unfolding channel_number
-      channel_wrong2 h =
-          need_no ((thread_line kinds x r t).op is input and (thread_line kinds x r u).op is output) 14 _
-          (λ z. h (ap (λ (n : model.Line). n.op) p ∙ (is_iff (thread_line kinds x r u).op output).0
-          ((and_iff ((thread_line kinds x r t).op is input) ((thread_line kinds x r u).op is output)).0 z).1))
+      next a h =
+          lines_go l k (thread_line kinds x r t) (thread_line kinds x r u) q p _ a z (h ∙ sym (need-last (value1 kinds x r t is value1 kinds x r u) 15 []))
 
-      module _ (v w : ℕ) (lop : l.op ≡ 5) (kop : k.op ≡ 4) (d : v ≡ moves.value_in kinds (thread r t) l.name1.0)
-          (e : w ≡ moves.value_in kinds (thread r u) k.name1.0) where
-        ops : T ((thread_line kinds x r t).op is input and (thread_line kinds x r u).op is output)
-        ops =
-            (and_iff ((thread_line kinds x r t).op is input) ((thread_line kinds x r u).op is output)).1 (
-              (is_iff (thread_line kinds x r t).op input).1 (sym (ap (λ (n : model.Line). n.op) q) ∙ lop),
-              (is_iff (thread_line kinds x r u).op output).1 (sym (ap (λ (n : model.Line). n.op) p) ∙ kop),
-            )
+      pub channel_same : (a : Bool) → a ≡ eqb v w → a ≡ true → 0 ≡ channel_number kinds x r t u
+      channel_same a h y = next 0 (ap (λ (b : Bool). unless b 15) (sym y ∙ h ∙ matched))
 
-        first : v ≡ value1 kinds x r t
-        unfolding value1
-        first = d ∙ ap (λ (n : model.Line). moves.value_in kinds (thread r t) n.name1) q
-
-        second : w ≡ value1 kinds x r u
-        unfolding value1
-        second = e ∙ ap (λ (n : model.Line). moves.value_in kinds (thread r u) n.name1) p
-
-        channel_one : v ≡ w → 0 ≡ channel_number kinds x r t u
-        unfolding channel_number
-        channel_one z =
-            sym (need_yes ((thread_line kinds x r t).op is input and (thread_line kinds x r u).op is output) 14
-            (need (value1 kinds x r t is value1 kinds x r u) 15 passed) ops
-            ∙ need_yes (value1 kinds x r t is value1 kinds x r u) 15 passed ((is_iff (value1 kinds x r t) (value1 kinds x r u)).1 (sym first ∙ z ∙ second)))
-
-        channel_two : v ≢ w → 15 ≡ channel_number kinds x r t u
-        unfolding channel_number
-        channel_two z =
-            need_no (value1 kinds x r t is value1 kinds x r u) 15 passed
-            (λ h. z (first ∙ (is_iff (value1 kinds x r t) (value1 kinds x r u)).0 h ∙ sym second))
-            ∙ sym (need_yes ((thread_line kinds x r t).op is input and (thread_line kinds x r u).op is output) 14
-            (need (value1 kinds x r t is value1 kinds x r u) 15 passed) ops)
-
-        pub channel_same : (a : Bool) → a ≡ eqb v w → a ≡ true → 0 ≡ channel_number kinds x r t u
-        unfolding ◌is◌
-        channel_same a h z = channel_one ((is_iff v w).0 (of_true (sym h ∙ z)))
-
-        pub channel_other : (a : Bool) → a ≡ eqb v w → a ≡ false → 15 ≡ channel_number kinds x r t u
-        unfolding ◌is◌
-        channel_other a h z = channel_two (λ y. not-false (sym h ∙ z) ((is_iff v w).1 y))
+      pub channel_other : (a : Bool) → a ≡ eqb v w → a ≡ false → 15 ≡ channel_number kinds x r t u
+      channel_other a h y = next 15 (ap (λ (b : Bool). unless b 15) (sym y ∙ h ∙ matched))
 
   module _ (n : ℕ) (e : n ≡ threads r) where
     pub intra_nobody : n ≤ t → 12 ≡ outcome_number (intra_move kinds x r t u)

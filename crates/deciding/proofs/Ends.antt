@@ -14,13 +14,14 @@ use Rattle.definitions.specs.Image.{kinds_of, model_of}
 use Rattle.definitions.specs.Record.{held_number, threads, site, thread, put_thread}
 use Rattle.definitions.specs.Moves.{Ends, made, need, onward, onward_with, site_with, found, at, types_share, value_in, thread_line, value1, value2, inter_move}
 use Rattle.definitions.specs.Calls.{outcome_number}
-use Rattle.definitions.proofs.Bounded.{and_iff, is_iff, isnt_iff, below_iff, of_true, not-false}
+use Rattle.definitions.proofs.Bounded.{and_iff, isnt_iff, below_iff, of_true, not-false}
 use Rattle.definitions.proofs.Image.{model_kinds}
 use Rattle.definitions.proofs.Made.{site-found}
 use Rattle.records.specs.declared.Line.{Line}
 use Rattle.records.specs.Records.{line_in}
-use Rattle.deciding.specs.Numbers.{passed, is_private, site_tests, channels_number, inter_number}
-use Rattle.deciding.proofs.Decided.{need_yes, need_no, need-same}
+use Rattle.deciding.specs.declared.Blocked.{Blocked}
+use Rattle.deciding.specs.Numbers.{blocked_number, unless, passed, is_private, site_tests, channels_number, inter_number}
+use Rattle.deciding.proofs.Decided.{need_yes, need_no, need-same, lines_stop, lines_go}
 
 -- ---- 16 and 17
 
@@ -101,57 +102,41 @@ module _ (kinds r s : List ℕ) (v w x : ℕ) (b : Bool) (e : b ≡ is_private k
 
 -- ---- 14, and then the channels
 
-module _ (kinds : List ℕ) (x : Box) (r : List ℕ) (y : Box) (s : List ℕ) (t u : ℕ) (l : Line) (q : line_in l ≡ thread_line kinds x r t) where
-  pub between_wrong : l.op ≢ 5 → 14 ≡ outcome_number (inter_move kinds x r y s t u)
+module _ (kinds : List ℕ) (x : Box) (r : List ℕ) (y : Box) (s : List ℕ) (t u : ℕ) (l k : Line) (q : line_in l ≡ thread_line kinds x r t)
+    (p : line_in k ≡ thread_line kinds y s u) where
+  pub between_wrong : (n : Blocked) → blocked_number n ≡ unless (l.op is input and k.op is output) 14
+      → blocked_number n ≡ outcome_number (inter_move kinds x r y s t u)
   unfolding inter_move
-  between_wrong h =
-      need_no ((thread_line kinds x r t).op is input and (thread_line kinds y s u).op is output) 14 _
-      (λ z. h (ap (λ (n : model.Line). n.op) q ∙ (is_iff (thread_line kinds x r t).op input).0
-      ((and_iff ((thread_line kinds x r t).op is input) ((thread_line kinds y s u).op is output)).0 z).0))
+  between_wrong n e = lines_stop l k (thread_line kinds x r t) (thread_line kinds y s u) q p _ n e
 
-  module _ (k : Line) (p : line_in k ≡ thread_line kinds y s u) where
-    pub between_wrong2 : k.op ≢ 4 → 14 ≡ outcome_number (inter_move kinds x r y s t u)
-    unfolding inter_move
-    between_wrong2 h =
-        need_no ((thread_line kinds x r t).op is input and (thread_line kinds y s u).op is output) 14 _
-        (λ z. h (ap (λ (n : model.Line). n.op) p ∙ (is_iff (thread_line kinds y s u).op output).0
-        ((and_iff ((thread_line kinds x r t).op is input) ((thread_line kinds y s u).op is output)).0 z).1))
+  pub between_number : (n : ℕ) → 0 ≡ unless (l.op is input and k.op is output) 14
+      → n ≡ channels_number kinds r s (value_in kinds (thread r t) l.name1.0) (value_in kinds (thread s u) k.name1.0) (value_in kinds (thread s u) k.name2.0)
+      → n ≡ outcome_number (inter_move kinds x r y s t u)
+  unfolding inter_move channels_number site_tests is_private value1 value2 ◌is◌ ◌isnt◌
+  between_number n z e =
+      lines_go l k (thread_line kinds x r t) (thread_line kinds y s u) q p _ n z
+      (e ∙ ap (λ (m : model.Line). number (value_in kinds (thread r t) m.name1) (value_in kinds (thread s u) k.name1.0) (value_in kinds (thread s u) k.name2.0)) q
+      ∙ ap (λ (m : model.Line). number (value1 kinds x r t) (value_in kinds (thread s u) m.name1) (value_in kinds (thread s u) m.name2)) p
+      ∙ need-same public 18 (need sited 16 (need meet 17 passed)) (need sited 16 (need meet 17 (made ends)))
+      (need-same sited 16 (need meet 17 passed) (need meet 17 (made ends)) (need-same meet 17 passed (made ends) refl)))
+    where
+      number : ℕ → ℕ → ℕ → ℕ
+      number v w z = channels_number kinds r s v w z
 
-    pub between_number : (n : ℕ) → l.op ≡ 5 → k.op ≡ 4
-        → n ≡ channels_number kinds r s (value_in kinds (thread r t) l.name1.0) (value_in kinds (thread s u) k.name1.0) (value_in kinds (thread s u) k.name2.0)
-        → n ≡ outcome_number (inter_move kinds x r y s t u)
-    unfolding inter_move channels_number site_tests is_private value1 value2 ◌is◌ ◌isnt◌
-    between_number n lop kop e =
-        e ∙ ap (λ (m : model.Line). number (value_in kinds (thread r t) m.name1) (value_in kinds (thread s u) k.name1.0) (value_in kinds (thread s u) k.name2.0)) q
-        ∙ ap (λ (m : model.Line). number (value1 kinds x r t) (value_in kinds (thread s u) m.name1) (value_in kinds (thread s u) m.name2)) p
-        ∙ need-same public 18 (need sited 16 (need meet 17 passed)) (need sited 16 (need meet 17 (made ends)))
-        (need-same sited 16 (need meet 17 passed) (need meet 17 (made ends)) (need-same meet 17 passed (made ends) refl))
-        ∙ sym (need_yes ((thread_line kinds x r t).op is input and (thread_line kinds y s u).op is output) 14 (need public 18 (need sited 16 (need meet 17 (made ends)))) ops)
-      where
-        number : ℕ → ℕ → ℕ → ℕ
-        number v w z = channels_number kinds r s v w z
+      sited : Bool
+      sited = found (site_with r (value1 kinds x r t) 0) and found (site_with s (value1 kinds y s u) 0)
 
-        ops : T ((thread_line kinds x r t).op is input and (thread_line kinds y s u).op is output)
-        ops =
-            (and_iff ((thread_line kinds x r t).op is input) ((thread_line kinds y s u).op is output)).1 (
-              (is_iff (thread_line kinds x r t).op input).1 (sym (ap (λ (m : model.Line). m.op) q) ∙ lop),
-              (is_iff (thread_line kinds y s u).op output).1 (sym (ap (λ (m : model.Line). m.op) p) ∙ kop),
-            )
+      meet : Bool
+      meet = types_share (site r (at (site_with r (value1 kinds x r t) 0))) (site s (at (site_with s (value1 kinds y s u) 0)))
 
-        sited : Bool
-        sited = found (site_with r (value1 kinds x r t) 0) and found (site_with s (value1 kinds y s u) 0)
+      public : Bool
+      public = kind_of_name kinds (held_number (value2 kinds y s u)) isnt 1
 
-        meet : Bool
-        meet = types_share (site r (at (site_with r (value1 kinds x r t) 0))) (site s (at (site_with s (value1 kinds y s u) 0)))
-
-        public : Bool
-        public = kind_of_name kinds (held_number (value2 kinds y s u)) isnt 1
-
-        ends : Ends
-        ends = record {
-          input = put_thread r t (onward_with kinds x r t (thread_line kinds x r t).name2 (value2 kinds y s u));
-          output = put_thread s u (onward kinds y s u);
-        }
+      ends : Ends
+      ends = record {
+        input = put_thread r t (onward_with kinds x r t (thread_line kinds x r t).name2 (value2 kinds y s u));
+        output = put_thread s u (onward kinds y s u);
+      }
 
 -- ---- 12 and 13
 

@@ -4,70 +4,101 @@ use mathlib.Core.List.{List}
 use Prim.Native.Nat.{ℕ, ◌≤◌, ◌<◌}
 use native.Mathlib.Omega.{arith}
 use lib.ListN.{length}
+use native.Mathlib.Bridge.{le_prop}
+use Rattle.definitions.specs.Bounded.{◌and◌, ◌is◌}
+use Rattle.definitions.proofs.Bounded.{and_iff, is_iff}
 use Rattle.definitions.specs.Model as model
-use Rattle.definitions.specs.Model.{Model, box_at, box_count, restriction, output, input, expose, hide, unhide}
+use Rattle.definitions.specs.Model.{box_at, output, input}
 use Rattle.definitions.specs.Image.{name_count, model_of}
 use Rattle.definitions.specs.Record.{held_number, threads, thread, line}
-use Rattle.definitions.specs.Moves.{value_in, thread_line, value2}
+use Rattle.definitions.specs.Moves.{value_in, thread_line, value2, inter_move}
+use Rattle.definitions.specs.Calls.{outcome_number}
 use Rattle.definitions.proofs.Valid.{ValidLine}
 use Rattle.isolation.proofs.KeepMoves.{sent_fits}
 use Rattle.records.specs.declared.Line.{Line}
 use Rattle.records.specs.Records.{line_in}
-use Rattle.lookups.specs.Ready.{BoxReady}
-use Rattle.lookups.proofs.Ready.{read_head, read_names, first_of, listed_name, ready_sites, ready_thread, ready_record, ready_valid, ready_inside, ready_stands}
-use Rattle.deciding.specs.Numbers.{line_number, EndReady, SentReady}
-use Rattle.deciding.proofs.Decided.{zero_live, zero-line}
+use Rattle.model.specs.declared.ReadModel.{ReadModel}
+use Rattle.lookups.specs.Ready.{kinds_in, box_in, BoxReady}
+use Rattle.lookups.proofs.Ready.{read_head, read_names, first_of, listed_name, ready_thread, open_ready, ready_valid, ready_inside, ready_stands}
+use Rattle.deciding.specs.Numbers.{blocked_number, unless, line_number, channels_number, EndReady, SentReady}
+use Rattle.deciding.specs.declared.Blocked.{Blocked}
+use Rattle.deciding.proofs.Ends.{between_wrong, between_number}
+use Rattle.deciding.proofs.Decided.{need_met, zero_live, zero-line}
 
-module _ {image : List ℕ} {places b : ℕ} {r : List ℕ} (k : BoxReady image places b r) where
-  valid_line : (t : ℕ) → t < threads r → ValidLine (model_of image) (thread_line (model_of image).kinds (box_at (model_of image) b) r t)
+module _ {m : ReadModel} {b : ℕ} {r : List ℕ} (k : BoxReady m b r) where
+  valid_line : (t : ℕ) → t < threads r → ValidLine (model_of m.image.now) (thread_line (kinds_in m) (box_in m b) r t)
   unfolding thread_line
-  valid_line t h = ((ready_valid k).box b (ready_inside k)).line (line (thread r t)) (ready_stands k t h).stands
+  valid_line t h = ((ready_valid k).box b (ready_inside k)).line (line (thread r t)) (ready_stands k t h)
 
-  module _ (t : ℕ) (l : Line) (h : t < threads r) (q : line_in l ≡ thread_line (model_of image).kinds (box_at (model_of image) b) r t) where
-    mine : ValidLine (model_of image) (line_in l)
-    mine = subst (ValidLine (model_of image)) (sym q) (valid_line t h)
+  module _ (t : ℕ) (l : Line) (h : t < threads r) (q : line_in l ≡ thread_line (kinds_in m) (box_in m b) r t) where
+    mine : ValidLine (model_of m.image.now) (line_in l)
+    mine = subst (ValidLine (model_of m.image.now)) (sym q) (valid_line t h)
 
-    pub input-listed : l.op ≡ 5 → l.name1.0 < name_count image
-    input-listed e = listed_name image l.name1.0 (mine.input_listed e)
+    module _ (n : ℕ) (z : 0 ≡ unless (l.op is input and n is output) 14) where
+      receives : l.op ≡ input
+      receives = (is_iff l.op input).0 ((and_iff (l.op is input) (n is output)).0 (need_met (l.op is input and n is output) 13 z)).0
 
-    pub output-listed : l.op ≡ 4 → l.name1.0 < name_count image
-    output-listed e = listed_name image l.name1.0 (mine.output_listed e)
+      pub input-listed : l.name1.0 < name_count m.image.now
+      input-listed = listed_name m.image.now l.name1.0 (mine.input_listed receives)
 
-    end_ready : (p : ℕ) → p < name_count image → EndReady image r t p
-    end_ready p e = record { read = k.read; most = ready_sites k; slot = ready_thread k t h; listed = e }
+      pub input_ready : EndReady m t l.name1.0
+      input_ready = record { slot = ready_thread k t h; listed = input-listed }
 
-    pub input_ready : l.op ≡ 5 → EndReady image r t l.name1.0
-    input_ready e = end_ready l.name1.0 (input-listed e)
+    module _ (n : ℕ) (z : 0 ≡ unless (n is input and l.op is output) 14) where
+      sends : l.op ≡ output
+      sends = (is_iff l.op output).0 ((and_iff (n is input) (l.op is output)).0 (need_met (n is input and l.op is output) 13 z)).1
 
-    pub output_ready : l.op ≡ 4 → EndReady image r t l.name1.0
-    output_ready e = end_ready l.name1.0 (output-listed e)
+      pub output-listed : l.name1.0 < name_count m.image.now
+      output-listed = listed_name m.image.now l.name1.0 (mine.output_listed sends)
 
-    pub sent_ready : l.op ≡ 4 → SentReady image r t l.name2.0
-    unfolding value2
-    sent_ready e = record {
-      end = end_ready l.name2.0 (listed_name image l.name2.0 (mine.sent_listed e));
-      value_listed = listed_name image (held_number (value_in (model_of image).kinds (thread r t) l.name2.0))
-          (subst (λ (n : model.Line). held_number (value_in (model_of image).kinds (thread r t) n.name2) < length (model_of image).kinds) (sym q)
-          (sent_fits (model_of image) (ready_valid k) b (ready_inside k) k.last r (ready_record k) t h (sym (ap (λ (n : model.Line). n.op) q) ∙ e)).listed);
-    }
+      pub output_ready : EndReady m t l.name1.0
+      output_ready = record { slot = ready_thread k t h; listed = output-listed }
 
-  pub turn-listed : (op t : ℕ) (l : Line) → 0 ≡ line_number (model_of image).kinds (box_at (model_of image) b) r t op → 3 ≤ op
-      → line_in l ≡ thread_line (model_of image).kinds (box_at (model_of image) b) r t → l.name1.0 < name_count image
+      pub sent_ready : SentReady m r t l.name2.0
+      unfolding value2
+      sent_ready = record {
+        end = record { slot = ready_thread k t h; listed = listed_name m.image.now l.name2.0 (mine.sent_listed sends) };
+        value_listed = listed_name m.image.now (held_number (value_in (kinds_in m) (thread r t) l.name2.0))
+            (open_ready k le_prop (λ last f.
+            subst (λ (n : model.Line). held_number (value_in (kinds_in m) (thread r t) n.name2) < length (kinds_in m)) (sym q)
+            (sent_fits (model_of m.image.now) (ready_valid k) b (ready_inside k) last r f t h (sym (ap (λ (n : model.Line). n.op) q) ∙ sends)).listed));
+      }
+
+  pub turn-listed : (op t : ℕ) (l : Line) → 0 ≡ line_number (kinds_in m) (box_in m b) r t op → 3 ≤ op
+      → line_in l ≡ thread_line (kinds_in m) (box_in m b) r t → l.name1.0 < name_count m.image.now
   turn-listed op t l z h q =
-      let x = box_at (model_of image) b in
-      let live = zero_live (model_of image).kinds x r t op z in
-      let is = zero-line (model_of image).kinds x r t op z in
-      listed_name image l.name1.0
-      (first_of (model_of image) (line_in l) (mine t l live q) (omega (arith, ap (λ (n : model.Line). n.op) q)))
+      let x = box_in m b in
+      let live = zero_live (kinds_in m) x r t op z in
+      let at = zero-line (kinds_in m) x r t op z in
+      listed_name m.image.now l.name1.0
+      (first_of (model_of m.image.now) (line_in l) (mine t l live q) (omega (arith, ap (λ (n : model.Line). n.op) q)))
 
--- ---- the ends of an inter move
+-- ---- what an inter move sends
 
-pub end_head : {image r : List ℕ} {t p : ℕ} → EndReady image r t p → 512 ≤ length image
-end_head {image} k = read_head image k.read
-
-module _ {image s : List ℕ} {n y u sent : ℕ} (d : n ≡ held_number y) (e : y ≡ value_in (model_of image).kinds (thread s u) sent) (k : SentReady image s u sent) where
-  pub number_listed : n < name_count image
+module _ {m : ReadModel} {s : List ℕ} {n y u sent : ℕ} (d : n ≡ held_number y) (e : y ≡ value_in (kinds_in m) (thread s u) sent) (k : SentReady m s u sent) where
+  pub number_listed : n < name_count m.image.now
   number_listed = rw (d, e) k.value_listed
 
   pub number_60 : n < 60
-  number_60 = read_names image n k.end.read number_listed
+  number_60 = read_names m.image.now n m.read number_listed
+
+pub model_head : (m : ReadModel) → 512 ≤ length m.image.now
+model_head m = read_head m.image.now m.read
+
+-- ---- two boxes of one model
+
+module _ (m n : ReadModel) (e : n.image.now ≡ m.image.now) (b c : ℕ) (r s : List ℕ) (t u : ℕ) (l k : Line) (q : line_in l ≡ thread_line (kinds_in m) (box_in m b) r t)
+    (p : line_in k ≡ thread_line (kinds_in n) (box_in n c) s u) where
+  second : line_in k ≡ thread_line (kinds_in m) (box_in m c) s u
+  second = p ∙ ap (λ (i : List ℕ). thread_line (model_of i).kinds (box_at (model_of i) c) s u) e
+
+  pub pair_wrong : (a : Blocked) → blocked_number a ≡ unless (l.op is input and k.op is output) 14
+      → blocked_number a ≡ outcome_number (inter_move (kinds_in m) (box_in m b) r (box_in m c) s t u)
+  pair_wrong a h = between_wrong (kinds_in m) (box_in m b) r (box_in m c) s t u l k q second a h
+
+  pub pair_number : (a : ℕ) → 0 ≡ unless (l.op is input and k.op is output) 14
+      → a ≡ channels_number (kinds_in n) r s (value_in (kinds_in m) (thread r t) l.name1.0) (value_in (kinds_in n) (thread s u) k.name1.0) (value_in (kinds_in n) (thread s u) k.name2.0)
+      → a ≡ outcome_number (inter_move (kinds_in m) (box_in m b) r (box_in m c) s t u)
+  pair_number a z h =
+      between_number (kinds_in m) (box_in m b) r (box_in m c) s t u l k q second a z
+      (h ∙ ap (λ (i : List ℕ). channels_number (model_of i).kinds r s (value_in (kinds_in m) (thread r t) l.name1.0) (value_in (model_of i).kinds (thread s u) k.name1.0) (value_in (model_of i).kinds (thread s u) k.name2.0)) e)

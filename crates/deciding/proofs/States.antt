@@ -6,9 +6,9 @@ use mathlib.Core.List.{List}
 use Prim.Native.Nat.{ℕ, zero, suc, ◌+◌, ◌*◌, ◌≤◌, ◌<◌}
 use native.Mathlib.Omega.{arith}
 use lib.Dec.{T}
+use Rattle.std.proofs.lemmas.Grind.{merely}
 use lib.ListN.{length}
 use Rattle.definitions.specs.Bounded.{◌and◌, ◌isnt◌, ◌below◌}
-use Rattle.definitions.specs.Words.{block_of, data_word}
 use Rattle.definitions.specs.Model.{box_at, box_count}
 use Rattle.definitions.specs.Image.{boxes_of, model_of}
 use Rattle.definitions.specs.Record.{threads, record_of, put_record, last_stamps}
@@ -17,34 +17,35 @@ use Rattle.definitions.specs.Calls.{outcome_number}
 use Rattle.definitions.proofs.Bounded.{and_iff, below_iff}
 use Rattle.definitions.proofs.Image.{model_count}
 use Rattle.definitions.proofs.StateRules.{StateFits, state_iff, record_iff}
+use Rattle.model.specs.declared.ReadModel.{ReadModel}
 use Rattle.lookups.specs.Ready.{BoxReady, Ready}
 use Rattle.lookups.specs.Inside.{inside_as, inside_outcome}
 use Rattle.lookups.proofs.Ready.{read_boxes}
-use Rattle.deciding.specs.Numbers.{inter_number, move_of}
+use Rattle.state.specs.Moves.{move_of}
+use Rattle.deciding.specs.Numbers.{inter_number}
 use Rattle.deciding.proofs.Decided.{need_yes, need_no, need-same, on_made_number}
 
 -- ---- a state that obeys the rules: each box's record is in order
 
-pub boxes_word : (image : List ℕ) (w : ℕ) → w ≡ data_word (block_of image 0) 1 → w ≡ boxes_of image
-unfolding boxes_of
-boxes_word image w e = e
+module _ (m : ReadModel) (st : List ℕ) (k : Ready m st) where
+  state_fits_lem : StateFits (model_of m.image.now) st
+  state_fits_lem = (state_iff (model_of m.image.now) st).0 k.fits
 
-module _ (image : List ℕ) (places : ℕ) (st : List ℕ) (k : Ready image places st) where
-  state_fits_lem : StateFits (model_of image) st
-  state_fits_lem = (state_iff (model_of image) st).0 k.fits
+  module _ (b : ℕ) (h : b < m.layout.boxes) where
+    listed : b < boxes_of m.image.now
+    listed = rw m.of.frame.boxes at h
 
-  module _ (b n : ℕ) (e : n ≡ boxes_of image) (h : b < n) where
     pub record_room : 1139 * (b + 1) ≤ length st
-    record_room = let q = read_boxes image b k.read (omega arith) in omega (arith, state_fits_lem.size)
+    record_room = let q = read_boxes m.image.now b m.read listed in omega (arith, state_fits_lem.size)
 
-    pub record_ready : (r : List ℕ) → r ≡ record_of st b → BoxReady image places b r
+    pub record_ready : (r : List ℕ) → r ≡ record_of st b → BoxReady m b r
     record_ready r d = record {
-      read = k.read;
-      placed = k.placed;
-      inside = omega arith;
-      last = last_stamps st;
-      fits = rw d ((record_iff (model_of image) (last_stamps st) (box_at (model_of image) b) (record_of st b)).1
-          (state_fits_lem.live b (read_boxes image b k.read (omega arith)) (rw (model_count image) (let z : b < boxes_of image = omega arith in z))));
+      inside = listed;
+      fits = merely (record {
+        last = last_stamps st;
+        fits = rw d ((record_iff (model_of m.image.now) (last_stamps st) (box_at (model_of m.image.now) b) (record_of st b)).1
+            (state_fits_lem.live b (read_boxes m.image.now b m.read listed) (rw (model_count m.image.now) listed)));
+      });
     }
 
 -- ---- kind 9 alone is inter
@@ -75,60 +76,60 @@ and_yes false z g = absurd g
 
 -- ---- a move in a state
 
-module _ (image st : List ℕ) (kind b t c u n : ℕ) (e : n ≡ boxes_of image) where
-  inside_model : (d : ℕ) → d < n → T (d below box_count (model_of image))
-  inside_model d h = (below_iff d (box_count (model_of image))).1 (rw (model_count image) (let z : d < boxes_of image = omega arith in z))
+module _ (m : ReadModel) (st : List ℕ) (kind b t c u : ℕ) where
+  inside_model : (d : ℕ) → d < m.layout.boxes → T (d below box_count (model_of m.image.now))
+  inside_model d h = (below_iff d (box_count (model_of m.image.now))).1 (omega (arith, h, m.of.frame.boxes, model_count m.image.now))
 
-  past : (d : ℕ) → n ≤ d → T (d below box_count (model_of image)) → ⊥
-  past d h t = let q = rw (model_count image) at ((below_iff d (box_count (model_of image))).0 t) in omega arith
+  past : (d : ℕ) → m.layout.boxes ≤ d → T (d below box_count (model_of m.image.now)) → ⊥
+  past d h t = let q = (below_iff d (box_count (model_of m.image.now))).0 t in omega (arith, h, m.of.frame.boxes, model_count m.image.now)
 
   -- both boxes and both threads are there
   abbrev There : Bool
-  There = b below box_count (model_of image) and c below box_count (model_of image) and t below threads (record_of st b) and u below threads (record_of st c)
+  There = b below box_count (model_of m.image.now) and c below box_count (model_of m.image.now) and t below threads (record_of st b) and u below threads (record_of st c)
 
-  split : T There → T (b below box_count (model_of image)) × T (c below box_count (model_of image)) × T (t below threads (record_of st b)) × T (u below threads (record_of st c))
+  split : T There → T (b below box_count (model_of m.image.now)) × T (c below box_count (model_of m.image.now)) × T (t below threads (record_of st b)) × T (u below threads (record_of st c))
   split z = let p = simp and_iff at z in (p.0.0.0, p.0.0.1, p.0.1, p.1)
 
-  pub act_nobody : n ≤ b → 12 ≡ outcome_number (act (model_of image) st (move_of kind b t c u))
+  pub act_nobody : m.layout.boxes ≤ b → 12 ≡ outcome_number (act (model_of m.image.now) st (move_of kind b t c u))
   unfolding act act_as inside_act inter_act
   act_nobody h = go (kind_of_move kind)
     where
-      go : (k : Kind) → 12 ≡ outcome_number (act_as (model_of image) st k (move_of kind b t c u))
-      go (inside i) = need_no (b below box_count (model_of image)) 12 _ (past b h)
+      go : (k : Kind) → 12 ≡ outcome_number (act_as (model_of m.image.now) st k (move_of kind b t c u))
+      go (inside i) = need_no (b below box_count (model_of m.image.now)) 12 _ (past b h)
       go inter = need_no There 12 _ (λ z. past b h (split z).0)
       go unknown = refl
 
-  pub act_inside : (x : ℕ) (r : List ℕ) → b < n → kind ≢ 9 → r ≡ record_of st b
-      → x ≡ outcome_number (inside_outcome (model_of image).kinds (box_at (model_of image) b) r kind t u)
-      → x ≡ outcome_number (act (model_of image) st (move_of kind b t c u))
+  pub act_inside : (x : ℕ) (r : List ℕ) → b < m.layout.boxes → kind ≢ 9 → r ≡ record_of st b
+      → x ≡ outcome_number (inside_outcome (model_of m.image.now).kinds (box_at (model_of m.image.now) b) r kind t u)
+      → x ≡ outcome_number (act (model_of m.image.now) st (move_of kind b t c u))
   unfolding act act_as inside_act inter_act inside_outcome
   act_inside x r h nine d q =
-      go (kind_of_move kind) (not-inter kind nine) (q ∙ ap (λ (s : List ℕ). outcome_number (inside_as (model_of image).kinds (box_at (model_of image) b) s (kind_of_move kind) t u)) d)
+      go (kind_of_move kind) (not-inter kind nine) (q ∙ ap (λ (s : List ℕ). outcome_number (inside_as (model_of m.image.now).kinds (box_at (model_of m.image.now) b) s (kind_of_move kind) t u)) d)
     where
-      go : (k : Kind) → (IsInter k → ⊥) → x ≡ outcome_number (inside_as (model_of image).kinds (box_at (model_of image) b) (record_of st b) k t u)
-          → x ≡ outcome_number (act_as (model_of image) st k (move_of kind b t c u))
-      go (inside i) f z = z ∙ sym (need_yes (b below box_count (model_of image)) 12 _ (inside_model b h) ∙ on_made_number (put_record st b) (inside_move (model_of image).kinds (box_at (model_of image) b) (record_of st b) i t u))
+      go : (k : Kind) → (IsInter k → ⊥) → x ≡ outcome_number (inside_as (model_of m.image.now).kinds (box_at (model_of m.image.now) b) (record_of st b) k t u)
+          → x ≡ outcome_number (act_as (model_of m.image.now) st k (move_of kind b t c u))
+      go (inside i) f z = z ∙ sym (need_yes (b below box_count (model_of m.image.now)) 12 _ (inside_model b h) ∙ on_made_number (put_record st b) (inside_move (model_of m.image.now).kinds (box_at (model_of m.image.now) b) (record_of st b) i t u))
       go inter f z = absurd (f tt)
       go unknown f z = z
 
   module _ (nine : kind ≡ 9) where
-    as_inter : outcome_number (act (model_of image) st (move_of kind b t c u)) ≡ outcome_number (inter_act (model_of image) st b t c u)
+    as_inter : outcome_number (act (model_of m.image.now) st (move_of kind b t c u)) ≡ outcome_number (inter_act (model_of m.image.now) st b t c u)
     unfolding act act_as kind_of_move
-    as_inter = ap (λ (k : ℕ). outcome_number (act_as (model_of image) st (kind_of_move k) (move_of kind b t c u))) nine
+    as_inter = ap (λ (k : ℕ). outcome_number (act_as (model_of m.image.now) st (kind_of_move k) (move_of kind b t c u))) nine
 
-    pub act_nobody2 : n ≤ c → 12 ≡ outcome_number (act (model_of image) st (move_of kind b t c u))
+    pub act_nobody2 : m.layout.boxes ≤ c → 12 ≡ outcome_number (act (model_of m.image.now) st (move_of kind b t c u))
     unfolding inter_act
     act_nobody2 h = need_no There 12 _ (λ z. past c h (split z).1) ∙ sym as_inter
 
-    pub act_inter : (x : ℕ) (r s : List ℕ) → b < n → c < n → r ≡ record_of st b → s ≡ record_of st c
-        → x ≡ inter_number (model_of image).kinds (box_at (model_of image) b) r (box_at (model_of image) c) s b t c u
-        → x ≡ outcome_number (act (model_of image) st (move_of kind b t c u))
+    pub act_inter : (x : ℕ) (r s : List ℕ) → b < m.layout.boxes → c < m.layout.boxes → r ≡ record_of st b → s ≡ record_of st c
+        → x ≡ inter_number (model_of m.image.now).kinds (box_at (model_of m.image.now) b) r (box_at (model_of m.image.now) c) s b t c u
+        → x ≡ outcome_number (act (model_of m.image.now) st (move_of kind b t c u))
     unfolding inter_act inter_number
     act_inter x r s hb hc d f q =
         q ∙ ap (λ (z : List ℕ). number z s) d ∙ ap (λ (z : List ℕ). number (record_of st b) z) f ∙ same ∙ sym as_inter
       where
         number : List ℕ → List ℕ → ℕ
-        number y z = inter_number (model_of image).kinds (box_at (model_of image) b) y (box_at (model_of image) c) z b t c u
+        number y z = inter_number (model_of m.image.now).kinds (box_at (model_of m.image.now) b) y (box_at (model_of m.image.now) c) z b t c u
 
         live : Bool
         live = t below threads (record_of st b) and u below threads (record_of st c)
@@ -138,14 +139,14 @@ module _ (image st : List ℕ) (kind b t c u n : ℕ) (e : n ≡ boxes_of image)
         twelve a z w o g = ap (λ (k : Bool). outcome_number (need (k and w) 12 o)) (sym (and_yes a z g))
 
         move : Outcome Ends
-        move = inter_move (model_of image).kinds (box_at (model_of image) b) (record_of st b) (box_at (model_of image) c) (record_of st c) t u
+        move = inter_move (model_of m.image.now).kinds (box_at (model_of m.image.now) b) (record_of st b) (box_at (model_of m.image.now) c) (record_of st c) t u
 
         whole : Ends → List ℕ
         whole e = put_record (put_record st b e.input) c e.output
 
-        same : number (record_of st b) (record_of st c) ≡ outcome_number (inter_act (model_of image) st b t c u)
+        same : number (record_of st b) (record_of st c) ≡ outcome_number (inter_act (model_of m.image.now) st b t c u)
         same =
             need-same live 12 (need (b isnt c) 13 move) (need (b isnt c) 13 (on_made whole move))
             (need-same (b isnt c) 13 move (on_made whole move) (sym (on_made_number whole move)))
-            ∙ twelve (b below box_count (model_of image) and c below box_count (model_of image)) (t below threads (record_of st b)) (u below threads (record_of st c)) (need (b isnt c) 13 (on_made whole move))
-            ((and_iff (b below box_count (model_of image)) (c below box_count (model_of image))).1 (inside_model b hb, inside_model c hc))
+            ∙ twelve (b below box_count (model_of m.image.now) and c below box_count (model_of m.image.now)) (t below threads (record_of st b)) (u below threads (record_of st c)) (need (b isnt c) 13 (on_made whole move))
+            ((and_iff (b below box_count (model_of m.image.now)) (c below box_count (model_of m.image.now))).1 (inside_model b hb, inside_model c hc))

@@ -1,14 +1,14 @@
 -- The number with which a move is refused, or 0, in the pieces that are decided one after the other. Assumes nothing.
-use Rattle.std.specs.Prelude.{◌≡◌, Result, Ok, Err, Bool, true, false, not, List, [], ℕ, ◌≤◌, ◌<◌}
-use Rattle.std.proofs.Math.Option.{none}
+use Rattle.std.specs.Prelude.{Result, Ok, Err, Bool, true, false, not, List, [], ℕ, ◌<◌}
 use Rattle.definitions.specs.Bounded.{◌and◌, ◌is◌, ◌isnt◌, ◌below◌}
 use Rattle.definitions.specs.Limits.{slot_limit}
 use Rattle.definitions.specs.Model.{Box, kind_of_name, output, input}
-use Rattle.definitions.specs.Image.{name_count, model_of}
-use Rattle.definitions.specs.ReadModel.{read_model}
-use Rattle.definitions.specs.Record.{held_number, threads, sites, site, thread}
-use Rattle.definitions.specs.Moves.{Move, Outcome, made, need, site_with, found, at, types_share, value_in, thread_line, value1, at_line, inter_move}
+use Rattle.definitions.specs.Image.{name_count}
+use Rattle.definitions.specs.Record.{held_number, threads, site, thread}
+use Rattle.definitions.specs.Moves.{Outcome, made, need, site_with, found, at, types_share, value_in, thread_line, value1, at_line, inter_move}
 use Rattle.definitions.specs.Calls.{outcome_number}
+use Rattle.model.specs.declared.ReadModel.{ReadModel}
+use Rattle.lookups.specs.Ready.{kinds_in}
 use Rattle.deciding.specs.declared.Blocked.{Blocked}
 use Rattle.deciding.specs.declared.Blocked.TheVariants.{Nobody, WithSelf, WrongLine, Channel, NoSite, Unfit, Private, Full, Spent}
 
@@ -24,9 +24,9 @@ blocked_number Private = 18
 blocked_number Full = 19
 blocked_number Spent = 20
 
-abbrev pub number_in : Result (Unit {0}) Blocked → ℕ
-number_in (Ok _) = 0
-number_in (Err n) = blocked_number n
+abbrev pub blocked_in : {A : Type 0} → Result A Blocked → ℕ
+blocked_in (Ok _) = 0
+blocked_in (Err n) = blocked_number n
 
 -- 0 where a test passes, and else a number
 abbrev pub unless : Bool → ℕ → ℕ
@@ -71,18 +71,12 @@ unfoldable pub inter_number : List ℕ → Box → List ℕ → Box → List ℕ
 inter_number kinds x r y s b t c u =
     outcome_number (need (t below threads r and u below threads s) 12 (need (b isnt c) 13 (inter_move kinds x r y s t u)))
 
--- a move by its five numbers
-abbrev pub move_of : ℕ → ℕ → ℕ → ℕ → ℕ → Move
-move_of kind b t c u = record { kind = kind; box = b; thread = t; box2 = c; thread2 = u }
-
--- what is asked of an end of an inter move: thread t of record r, whose line names p
-pub record EndReady (image r : List ℕ) (t p : ℕ) : Type 0 where
-  pub read : read_model image ≡ none
-  pub most : sites r ≤ slot_limit
+-- what is asked of an end of an inter move: thread t, whose line names p
+pub record EndReady (m : ReadModel) (t p : ℕ) : Type 0 where
   pub slot : t < slot_limit
-  pub listed : p < name_count image
+  pub listed : p < name_count m.image.now
 
--- the same of the end that sends, and what it sends is a listed name
-pub record SentReady (image s : List ℕ) (u sent : ℕ) : Type 0 where
-  pub end : EndReady image s u sent
-  pub value_listed : held_number (value_in (model_of image).kinds (thread s u) sent) < name_count image
+-- the same of the end that sends with record s, and what it sends is a listed name
+pub record SentReady (m : ReadModel) (s : List ℕ) (u sent : ℕ) : Type 0 where
+  pub end : EndReady m u sent
+  pub value_listed : held_number (value_in (kinds_in m) (thread s u) sent) < name_count m.image.now

@@ -1,14 +1,15 @@
 // The blocks of an estimate, each a table of sets: refusals 2 to 5, and their first over the boxes.
+// Bounds of indices and counts stand in the clauses: a type for each bound would be taken apart at every use.
 ghost use Rattle.std.specs.Prelude.{◌≡◌, ◌+◌, ◌*◌, ◌≤◌, min, length};
 ghost use Rattle.definitions.specs.Sets.{no_bit_past};
 ghost use Rattle.definitions.specs.Bounded.{first_below};
-ghost use Rattle.definitions.specs.Words.{block_of, data_word};
+ghost use Rattle.definitions.specs.Words.{data_word};
 ghost use Rattle.definitions.specs.ReadEstimate.{sets_fit, is_set, table_fault};
 ghost use Rattle.refusals.specs.Answers.{answer_in};
 ghost use Rattle.estimate.specs.Blocks.{last_sets, words_fit, UnionOver, box_tables_fault};
 
 use blocks::inside::BlockKind;
-use refusals::{Refusal, Rule, fault_if};
+use refusals::{Refusal, Rule};
 
 // The words that the names have: one each, of words 0 to 59.
 fn name_words(names: usize) -> usize
@@ -29,16 +30,15 @@ fn last_sets(asked: usize) -> usize
     }
 }
 
-// The union of the words of block k from one number up to another.
+// The union of a block's words from one number up to another.
 #[tactic(auto, using(crate::proofs::Ranges::unions))]
-fn words_union(image: &[u8], k: usize, from: usize, to: usize) -> u64
-    requires there { 512 * (k + 1) ≤ length image.now }
-    requires few { to ≤ 62 }
-    ensures { UnionOver (data_word (block_of image.now k)) from to result }
+fn words_union(block: &[u8; 512], from: usize, to: usize) -> u64
+    requires { to ≤ 62 }
+    ensures { UnionOver (data_word block.now) from to result }
 {
     let mut w: u64 = 0;
     for i in from..to {
-        w = sets::union(w, blocks::inside::data_word(image, k, i));
+        w = sets::union(w, blocks::inside::data_word(block, i));
     }
     w
 }
@@ -50,30 +50,28 @@ fn no_bit_past(names: usize, w: u64) -> bool
     64 <= names || w >> names == 0
 }
 
-// The words of block k from one number up to another have no bit past n: tested once, on their union.
+// The words of a block from one number up to another have no bit past n: tested once, on their union.
 #[tactic(auto, using(crate::proofs::Ranges::unions))]
-fn words_fit(image: &[u8], k: usize, from: usize, to: usize, n: usize) -> bool
-    requires there { 512 * (k + 1) ≤ length image.now }
-    requires few { to ≤ 62 }
-    ensures { result ≡ words_fit n from to (data_word (block_of image.now k)) }
+fn words_fit(block: &[u8; 512], from: usize, to: usize, n: usize) -> bool
+    requires { to ≤ 62 }
+    ensures { result ≡ words_fit n from to (data_word block.now) }
 {
-    no_bit_past(n, words_union(image, k, from, to))
+    no_bit_past(n, words_union(block, from, to))
 }
 
 // The names' sets, the words between, which are zero, and the last sets.
 #[tactic(auto, using(crate::proofs::Ranges::words))]
-fn sets_fit(image: &[u8], names: usize, k: usize, asked: usize) -> bool
-    requires { 512 * (k + 1) ≤ length image.now }
-    ensures { result ≡ sets_fit names (is_set names asked) (block_of image.now k) }
+fn sets_fit(block: &[u8; 512], names: usize, asked: usize) -> bool
+    ensures { result ≡ sets_fit names (is_set names asked) block.now }
 {
     let named = name_words(names);
     let last = last_sets(asked);
-    words_fit(image, k, 0, named, names)
-        & words_fit(image, k, named, last, 0)
-        & words_fit(image, k, last, 62, names)
+    words_fit(block, 0, named, names)
+        & words_fit(block, named, last, 0)
+        & words_fit(block, last, 62, names)
 }
 
-// Block k, where the order asks for a kind and a box.
+// Block k, where the order asks for a kind and a box. asked is the kind's number, as in table_fault: a BlockKind would add its number to each contract.
 #[tactic(auto, using(crate::proofs::Laws::tables))]
 pub fn table(
     image: &[u8],
@@ -85,16 +83,13 @@ pub fn table(
     requires { 512 * (k + 1) ≤ length image.now }
     ensures { answer_in result ≡ table_fault image.now names k asked place }
 {
-    fault_if(!blocks::inside::check_matches(image, k), Rule::Check, k, 0)?;
-    let h = blocks::inside::heading_of(image, k);
-    fault_if(
-        !blocks::inside::heading_matches(h, k, asked, place),
-        Rule::Heading,
-        k,
-        0,
-    )?;
-    fault_if(h.count != 0, Rule::Count, k, 0)?;
-    fault_if(!sets_fit(image, names, k, asked), Rule::Stray, k, 0)
+    let block = blocks::inside::block(image, k);
+    Rule::Check.fault_if(!blocks::inside::check_matches(block), k, 0)?;
+    let h = blocks::inside::heading_of(block);
+    let fits = blocks::inside::heading_matches(h, k, asked, place);
+    Rule::Heading.fault_if(!fits, k, 0)?;
+    Rule::Count.fault_if(h.count != 0, k, 0)?;
+    Rule::Stray.fault_if(!sets_fit(block, names, asked), k, 0)
 }
 
 // Box b's two blocks.

@@ -28,7 +28,8 @@ use Rattle.layouts.specs.declared.Layout.{Layout}
 use Rattle.records.specs.Records.{site_in, line_in}
 use Rattle.layouts.specs.LayoutOf.{OfKind, LayoutOf}
 use Rattle.sets.specs.Names.{NamesOnly}
-use Rattle.clauses.specs.Known.{BoxOfNames, EstimateOfNames, LineOfNames}
+use Rattle.estimate.specs.Known.{BoxOfNames, EstimateOfNames}
+use Rattle.clauses.specs.Known.{LineOfNames}
 use Rattle.line_gather.specs.Gathered.{LinesOfNames}
 use Rattle.first_broken.specs.Known.{Unrefused}
 

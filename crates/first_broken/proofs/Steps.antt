@@ -18,12 +18,12 @@ use Rattle.definitions.proofs.Bounded.{is_iff, of_true, each_none}
 use Rattle.definitions.proofs.Faults.{when_iff}
 use Rattle.definitions.proofs.Clauses.{at_iff}
 use Rattle.definitions.proofs.Image.{model_count, model_box, model_kinds, model_names, box_sites, box_lines}
-use Rattle.definitions.proofs.Loops.{passed-turn, passed_end}
+use Rattle.refusals.proofs.Answers.{answers}
 use Rattle.records.specs.declared.Site.{Site}
 use Rattle.records.specs.declared.Line.{Line}
 use Rattle.layouts.specs.declared.Layout.{Layout}
 use Rattle.records.specs.Records.{site_in, line_in}
-use Rattle.layouts.specs.LayoutOf.{LayoutOf}
+use Rattle.layouts.specs.LayoutOf.{LayoutOf, nowhere}
 use Rattle.records.specs.Places.{line_record_at}
 use Rattle.sharing.proofs.Gather.{nothing_of}
 use Rattle.clause_walk.specs.Lines.{LinePasses, ShowsLines}
@@ -42,10 +42,10 @@ site-is model estimate k b i s o r u inside at h es q f =
 
 -- a line of the model
 pub line-is : (model estimate : List ℕ) (boxes k b i : ℕ) (l : Line) (r : Option cl.Broken) → Unrefused model estimate → boxes ≡ boxes_of model
-    → b < boxes → k ≡ sites_block model b → i < lines_of model b → line_in l ≡ line_record (block_of model (k + 1 + i / 31)) (i % 31)
+    → b < boxes_of model → k ≡ sites_block model b → i < lines_of model b → line_in l ≡ line_record (block_of model (k + 1 + i / 31)) (i % 31)
     → LineFound (estimate_of estimate) boxes b i (line_in l) r → r ≡ cl.line_broken (model_of model) (estimate_of estimate) b i
 line-is model estimate boxes k b i l r u eb inside at h el q =
-    q.same (model_of model) (line-at model estimate u b (rw eb at inside) k at i h ∙ sym el) (model_count model ∙ sym eb)
+    q.same (model_of model) (line-at model estimate u b inside k at i h ∙ sym el) (model_count model ∙ sym eb)
 
 -- ---- no line of a box breaks a clause
 
@@ -75,9 +75,12 @@ shown_none model estimate boxes k b n r u eb inside at en s t =
     passes_none (model_of model) (estimate_of estimate) b i (line_record_at model k i) (line-at model estimate u b (rw eb at inside) k at i (rw en at h))
     (subst (λ (x : ℕ). LinePasses (estimate_of estimate) x b (line_record_at model k i)) (eb ∙ sym (model_count model)) (s.shows (of_true t) i h))))
 
--- a box is inside, by a count that is the same
+-- below a count, or not, by one that is the same
 pub inside_of : (n b count : ℕ) → count ≡ n → b < count → b < n
 inside_of n b count e h = rw e at h
+
+pub most_of : (n b count : ℕ) → count ≡ n → count ≤ b → n ≤ b
+most_of n b count e h = rw e at h
 
 -- ---- a box: its sites, then its lines
 
@@ -85,66 +88,69 @@ module _ (model : List ℕ) (l : Layout) (h : LayoutOf model l) where
   pub layout_boxes : l.boxes ≡ boxes_of model
   layout_boxes = h.frame.boxes
 
-  module _ (b : ℕ) (inside : b < l.boxes) where
-    pub in_image : b < boxes_of model
-    in_image = rw h.frame.boxes at inside
+  module _ (b : ℕ) (inside : b < boxes_of model) where
+    pub layout_at : (get_or l.each b nowhere).at ≡ sites_block model b
+    layout_at = h.frame.at b inside
 
-    pub layout_at : get_or l.at b 0 ≡ sites_block model b
-    layout_at = h.frame.at b in_image
+    pub layout_sites : (get_or l.each b nowhere).sites ≡ count_of (block_of model (sites_block model b))
+    layout_sites = h.frame.sites b inside
 
-    pub layout_sites : get_or l.sites b 0 ≡ count_of (block_of model (get_or l.at b 0))
-    layout_sites = h.frame.sites b in_image ∙ ap (λ (k : ℕ). count_of (block_of model k)) (sym layout_at)
+    pub layout_lines : (get_or l.each b nowhere).lines ≡ lines_of model b
+    layout_lines = h.frame.lines b inside
 
-    pub layout_lines : get_or l.lines b 0 ≡ lines_of model b
-    layout_lines = h.frame.lines b in_image
+module _ (model : List ℕ) (e : Estimate) (b : ℕ) (inside : b < boxes_of model) where
+  site_run : Option cl.Broken
+  site_run = first_below (count_of (block_of model (sites_block model b))) (cl.site_broken (model_of model) e b)
 
-    module _ (e : Estimate) where
-      box_is : cl.box_broken (model_of model) e b
-          ≡ or_else (first_below (get_or l.sites b 0) (cl.site_broken (model_of model) e b)) (first_below (get_or l.lines b 0) (cl.line_broken (model_of model) e b))
-      unfolding cl.box_broken
-      box_is =
-          ap₂ (λ (m n : ℕ). or_else (first_below m (cl.site_broken (model_of model) e b)) (first_below n (cl.line_broken (model_of model) e b)))
-          (ap paper.site_count (model_box model b in_image) ∙ box_sites model b ∙ sym (h.frame.sites b in_image))
-          (ap paper.line_count (model_box model b in_image) ∙ box_lines model b ∙ sym layout_lines)
+  line_run : Option cl.Broken
+  line_run = first_below (lines_of model b) (cl.line_broken (model_of model) e b)
 
-      pub box_stop : (x : cl.Broken) → some x ≡ first_below (get_or l.sites b 0) (cl.site_broken (model_of model) e b) → some x ≡ cl.box_broken (model_of model) e b
-      box_stop x q =
-          ap (λ (o : Option cl.Broken). or_else o (first_below (get_or l.lines b 0) (cl.line_broken (model_of model) e b))) q ∙ sym box_is
+  box_is : cl.box_broken (model_of model) e b ≡ or_else site_run line_run
+  unfolding cl.box_broken site_run line_run
+  box_is =
+      ap₂ (λ (m n : ℕ). or_else (first_below m (cl.site_broken (model_of model) e b)) (first_below n (cl.line_broken (model_of model) e b)))
+      (ap paper.site_count (model_box model b inside) ∙ box_sites model b)
+      (ap paper.line_count (model_box model b inside) ∙ box_lines model b)
 
-      pub box_go : (r : Option cl.Broken) → none ≡ first_below (get_or l.sites b 0) (cl.site_broken (model_of model) e b)
-          → r ≡ first_below (get_or l.lines b 0) (cl.line_broken (model_of model) e b) → r ≡ cl.box_broken (model_of model) e b
-      box_go r q k =
-          k ∙ ap (λ (o : Option cl.Broken). or_else o (first_below (get_or l.lines b 0) (cl.line_broken (model_of model) e b))) q ∙ sym box_is
+  pub box_stop : (x : cl.Broken) → first_below (count_of (block_of model (sites_block model b))) (cl.site_broken (model_of model) e b) ≡ some x
+      → cl.box_broken (model_of model) e b ≡ some x
+  unfolding site_run
+  box_stop x q = box_is ∙ ap (λ (o : Option cl.Broken). or_else o line_run) q
+
+  pub box_go : (r : Option cl.Broken) → first_below (count_of (block_of model (sites_block model b))) (cl.site_broken (model_of model) e b) ≡ none
+      → first_below (lines_of model b) (cl.line_broken (model_of model) e b) ≡ r → cl.box_broken (model_of model) e b ≡ r
+  unfolding site_run line_run
+  box_go r q k = box_is ∙ ap (λ (o : Option cl.Broken). or_else o line_run) q ∙ k
 
 -- ---- names, then boxes
 
-module _ (model : List ℕ) (l : Layout) (h : LayoutOf model l) (e : Estimate) (few : l.names ≤ 60) (f : Option cl.Broken) (ef : NamesFound e l.free f) where
-  free_in : (n : ℕ) → n < 64 → has l.free n ≡ paper.is_free (model_of model).kinds n
+module _ (model : List ℕ) (l : Layout) (h : LayoutOf model l) (e : Estimate) (few : l.names ≤ 60) (f : Option cl.Broken) (ef : NamesFound e l.kinds.free f) where
+  free_in : (n : ℕ) → n < 64 → has l.kinds.free n ≡ paper.is_free (model_of model).kinds n
   free_in n k =
       h.frame.free n k ∙ ap (λ (c : ℕ). n below c and paper.kind_of_name (kinds_of model) n is 0) (sym (model_names model))
       ∙ ap (λ (x : List ℕ). paper.is_free x n) (sym (model_kinds model))
 
-  all_is : cl.first_broken (model_of model) e ≡ or_else f (first_below l.boxes (cl.box_broken (model_of model) e))
+  all_is : cl.first_broken (model_of model) e ≡ or_else f (first_below (boxes_of model) (cl.box_broken (model_of model) e))
   unfolding cl.first_broken
   all_is =
       sym (ap₂ (λ (o : Option cl.Broken) (n : ℕ). or_else o (first_below n (cl.box_broken (model_of model) e)))
       (ef.same (model_of model) (omega (arith, few, h.frame.names, ap length (model_kinds model) ∙ model_names model)) free_in)
-      (h.frame.boxes ∙ sym (model_count model)))
+      (sym (model_count model)))
 
-pub all_stop : (model : List ℕ) (l : Layout) (e : Estimate) (x : cl.Broken) → LayoutOf model l → l.names ≤ 60 → NamesFound e l.free (some x)
+pub all_stop : (model : List ℕ) (l : Layout) (e : Estimate) (x : cl.Broken) → LayoutOf model l → l.names ≤ 60 → NamesFound e l.kinds.free (some x)
     → some x ≡ cl.first_broken (model_of model) e
 all_stop model l e x h few f = sym (all_is model l h e few (some x) f)
 
-pub all_go : (model : List ℕ) (l : Layout) (e : Estimate) (r : Option cl.Broken) → LayoutOf model l → l.names ≤ 60 → NamesFound e l.free none
-    → r ≡ first_below l.boxes (cl.box_broken (model_of model) e) → r ≡ cl.first_broken (model_of model) e
+pub all_go : (model : List ℕ) (l : Layout) (e : Estimate) (r : Option cl.Broken) → LayoutOf model l → l.names ≤ 60 → NamesFound e l.kinds.free none
+    → r ≡ first_below (boxes_of model) (cl.box_broken (model_of model) e) → r ≡ cl.first_broken (model_of model) e
 all_go model l e r h few f q = q ∙ sym (all_is model l h e few none f)
 
 pub ruleset sites = (rules, eps_there, site-there, site_31, site_62, site-is)
 
-pub ruleset firsts = (rules, passed-turn, passed_end)
+pub ruleset firsts = (answers, box_8, layout_boxes, layout_sites, inside_of, most_of)
 
-pub ruleset walks = (rules, passed-turn, passed_end, inside_of, box_names, line-there, line_names, lines_named, nothing_of, shown_none)
+pub ruleset walks = (answers, box_8, layout_boxes, layout_at, layout_lines, inside_of, most_of, line-there, line_names, lines_named, nothing_of, shown_none)
 
-pub ruleset boxes = (rules, box_8, layout_boxes, in_image, layout_at, layout_sites, layout_lines, box_go)
+pub ruleset boxes = (rules, box_stop, box_go)
 
 pub ruleset finds = (rules, count_60, kind_names, estimate_512, layout_boxes, names_boxes, all_go)

@@ -1,5 +1,5 @@
 -- Laws of the limits of held names: a held name lies within the limits of its number exactly when it is in order. Assumes nothing.
-use Rattle.std.proofs.Common.{◌≡◌, ℕ, ◌+◌, ◌-◌, ◌%◌, ◌^◌, ◌<◌, ◌≤◌, Bool, true, false, ◌&&◌, T, leb, ◌≢◌, ◌↔◌, List, length, get_or, set, replicate, sym, refl, ap, ◌∙◌, subst, ap₂, arith, length-set, get_or-set_other, get_or-set_same}
+use Rattle.std.proofs.Common.{◌≡◌, ℕ, ◌+◌, ◌-◌, ◌%◌, ◌^◌, ◌<◌, ◌≤◌, Bool, true, false, ◌&&◌, T, leb, ◌≢◌, ◌↔◌, List, length, get_or, set, replicate, sym, refl, ap, ◌∙◌, subst, ap₂, arith, length-set, get_or-set_other}
 use mathlib.Core.Option.{Option, none, some}
 use native.Mathlib.Decide.{ℕ_discrete, dec_lt}
 use lib.ListN.{length-replicate, get_or-replicate}
@@ -14,11 +14,13 @@ use Rattle.definitions.proofs.Loops.{joining_start, joining_turn, joining_end}
 use Rattle.definitions.proofs.Image.{model_kinds, model_names}
 use Rattle.definitions.proofs.StateRules.{number_low, HeldFits, held_iff}
 use Rattle.layouts.specs.declared.Layout.{Layout}
-use Rattle.layouts.specs.LayoutOf.{OfKind, LayoutOf}
+use Rattle.layouts.specs.declared.BoxPlace.{BoxPlace}
+use Rattle.layouts.specs.LayoutOf.{nowhere, OfKind, LayoutOf}
 use Rattle.layouts.specs.Owners.{first_binder}
+use Rattle.layouts.proofs.LayoutLaws.{set_entry}
 use Rattle.layouts.proofs.OwnerLaws.{binder_owner}
-use Rattle.held_limits.specs.declared.Limits.{Limits}
-use Rattle.held_limits.specs.Limits.{entry_of, in_limits, least_held, largest_made, largest_held, last_fits, StampsFit, LimitsFor}
+use Rattle.held_limits.specs.declared.Limit.{Limit}
+use Rattle.held_limits.specs.Limits.{past, entry_of, in_limits, least_held, largest_made, largest_held, last_fits, StampsFit, LimitsFor}
 
 -- ---- one held name
 
@@ -31,11 +33,11 @@ module _ (v n : ℕ) (e : n ≡ entry_of v) where
   unfolding entry_of
   entry_below = omega arith
 
-  pub in_limits_lem : (limits : Limits) → (leb (get_or limits.low n 0) v && leb v (get_or limits.high n 0)) ≡ in_limits limits v
+  pub in_limits_lem : (limits : List Limit) → (leb (get_or limits n past).low v && leb v (get_or limits n past).high) ≡ in_limits limits v
   unfolding in_limits ◌upto◌
   in_limits_lem limits =
-      and_is (leb (get_or limits.low n 0) v) (leb v (get_or limits.high n 0))
-      ∙ ap (λ (i : ℕ). get_or limits.low i 0 upto v and v upto get_or limits.high i 0) e
+      and_is (leb (get_or limits n past).low v) (leb v (get_or limits n past).high)
+      ∙ ap (λ (i : ℕ). (get_or limits i past).low upto v and v upto (get_or limits i past).high) e
 
 -- ---- the last stamp of a box
 
@@ -60,12 +62,12 @@ module _ (free n : ℕ) (b : Bool) (e : b ≡ has free n) where
   least_made w t z = z ∙ ap (λ (c : Bool). elim c as (λ _. ℕ) [ true ↦ held n 0 | false ↦ held n 1 ]) (sym t ∙ e)
 
 -- the box that binds a name is one of the boxes, so its last stamp is at most the limit
-module _ (bound : List ℕ) (boxes n b : ℕ) (found : some b ≡ first_binder bound boxes n) where
+module _ (each : List BoxPlace) (boxes n b : ℕ) (found : some b ≡ first_binder each boxes n) where
   binder_inside : b < boxes
   unfolding first_binder
   binder_inside =
-      let x = first_found (λ c. some_if (has (get_or bound c 0) n) c) boxes b (sym found) in
-      let z = (fault_some (has (get_or bound x.0 0) n) x.0 b x.2).1 in
+      let x = first_found (λ c. some_if (has (get_or each c nowhere).bound n) c) boxes b (sym found) in
+      let z = (fault_some (has (get_or each x.0 nowhere).bound n) x.0 b x.2).1 in
       omega (arith, x.1)
 
   pub binder_below : (st : List ℕ) → StampsFit st boxes → b < 8
@@ -76,87 +78,73 @@ module _ (bound : List ℕ) (boxes n b : ℕ) (found : some b ≡ first_binder b
   binder_stamp st w f z =
       subst (λ (s : ℕ). s ≤ stamp_limit) (sym z) ((upto_iff (last_stamps st b) stamp_limit).0 ((all_iff boxes (last_fits st)).0 (of_true f.stamps) b binder_inside))
 
-  pub largest_some : (last : ℕ → ℕ) (v w : ℕ) → v ≡ held n w → w ≡ last b → v ≡ largest_made bound boxes last n
+  pub largest_some : (last : ℕ → ℕ) (v w : ℕ) → v ≡ held n w → w ≡ last b → v ≡ largest_made each boxes last n
   unfolding largest_made
   largest_some last v w y z =
       y ∙ ap (held n) z ∙ ap (λ (x : Option ℕ). elim x as (λ _. ℕ) [ none ↦ 0 | some c ↦ held n (last c) ]) found
 
-pub largest_none : (bound : List ℕ) (boxes n : ℕ) → none ≡ first_binder bound boxes n → (last : ℕ → ℕ) → 0 ≡ largest_made bound boxes last n
+pub largest_none : (each : List BoxPlace) (boxes n : ℕ) → none ≡ first_binder each boxes n → (last : ℕ → ℕ) → 0 ≡ largest_made each boxes last n
 unfolding largest_made
-largest_none bound boxes n found last = ap (λ (x : Option ℕ). elim x as (λ _. ℕ) [ none ↦ 0 | some c ↦ held n (last c) ]) found
+largest_none each boxes n found last = ap (λ (x : Option ℕ). elim x as (λ _. ℕ) [ none ↦ 0 | some c ↦ held n (last c) ]) found
 
-module _ (l : Layout) (last : ℕ → ℕ) (n : ℕ) (b : Bool) (e : b ≡ has l.free n) where
+module _ (l : Layout) (last : ℕ → ℕ) (n : ℕ) (b : Bool) (e : b ≡ has l.kinds.free n) where
   pub largest_free : (w : ℕ) → b ≡ true → w ≡ held n 0 → w ≡ largest_held l last n
   unfolding largest_held
   largest_free w t z =
       z ∙ ap (λ (c : Bool). elim c as (λ _. ℕ) [
         | true ↦ held n 0
-        | false ↦ elim (has l.received n) [ true ↦ 0 | false ↦ largest_made l.bound l.boxes last n ]
+        | false ↦ elim (has l.kinds.received n) [ true ↦ 0 | false ↦ largest_made l.each l.boxes last n ]
       ]) (sym t ∙ e)
 
-  module _ (f : b ≡ false) (c : Bool) (z : c ≡ has l.received n) where
-    not_free_lem : (r : ℕ) → ◌≡◌ {A = ℕ} r (elim c [ true ↦ 0 | false ↦ largest_made l.bound l.boxes last n ]) → r ≡ largest_held l last n
+  module _ (f : b ≡ false) (c : Bool) (z : c ≡ has l.kinds.received n) where
+    not_free_lem : (r : ℕ) → ◌≡◌ {A = ℕ} r (elim c [ true ↦ 0 | false ↦ largest_made l.each l.boxes last n ]) → r ≡ largest_held l last n
     unfolding largest_held
     not_free_lem r q =
         q ∙ ap₂ (λ (x y : Bool). elim x as (λ _. ℕ) [
           | true ↦ held n 0
-          | false ↦ elim y [ true ↦ 0 | false ↦ largest_made l.bound l.boxes last n ]
+          | false ↦ elim y [ true ↦ 0 | false ↦ largest_made l.each l.boxes last n ]
         ]) (sym f ∙ e) z
 
     pub largest_received : c ≡ true → 0 ≡ largest_held l last n
-    largest_received t = not_free_lem 0 (ap (λ (y : Bool). elim y as (λ _. ℕ) [ true ↦ 0 | false ↦ largest_made l.bound l.boxes last n ]) (sym t))
+    largest_received t = not_free_lem 0 (ap (λ (y : Bool). elim y as (λ _. ℕ) [ true ↦ 0 | false ↦ largest_made l.each l.boxes last n ]) (sym t))
 
-    pub largest_made_lem : (r : ℕ) → c ≡ false → r ≡ largest_made l.bound l.boxes last n → r ≡ largest_held l last n
-    largest_made_lem r t q = not_free_lem r (q ∙ ap (λ (y : Bool). elim y as (λ _. ℕ) [ true ↦ 0 | false ↦ largest_made l.bound l.boxes last n ]) (sym t))
+    pub largest_made_lem : (r : ℕ) → c ≡ false → r ≡ largest_made l.each l.boxes last n → r ≡ largest_held l last n
+    largest_made_lem r t q = not_free_lem r (q ∙ ap (λ (y : Bool). elim y as (λ _. ℕ) [ true ↦ 0 | false ↦ largest_made l.each l.boxes last n ]) (sym t))
 
--- ---- the tables
+-- ---- the table
 
--- the entries below n are given, and each other is d
-pub record Filled (f : ℕ → ℕ) (d n : ℕ) (xs : List ℕ) : Type 0 where
-  pub long : length xs ≡ 64
-  pub given : (i : ℕ) → i < n → get_or xs i 0 ≡ f i
-  pub rest : (i : ℕ) → n ≤ i → i < 64 → get_or xs i 0 ≡ d
+-- the limits of number n
+abbrev pub limit_of : Layout → (ℕ → ℕ) → ℕ → Limit
+limit_of l last n = record { low = least_held l.kinds.free n; high = largest_held l last n }
 
-filled-start : (f : ℕ → ℕ) (d : ℕ) → Filled f d 0 (replicate 64 d)
-filled-start f d = record {
-  long = length-replicate {A = ℕ} 64 d;
-  given = λ i l. absurd (omega arith);
-  rest = λ i _ l. get_or-replicate 64 i d 0 l;
-}
+-- the limits that admit nothing
+abbrev pub shut : Limit
+shut = record { low = 1; high = 0 }
 
-filled-turn : (f : ℕ → ℕ) (d n : ℕ) (xs : List ℕ) (v : ℕ) → Filled f d n xs → n < 64 → v ≡ f n → Filled f d (n + 1) (set xs n v)
-filled-turn f d n xs v p h e = record {
-  long = length-set xs n v ∙ p.long;
-  given = λ i l. pick i l (ℕ_discrete n i);
-  rest = λ i l q. get_or-set_other xs n i v 0 (omega arith) ∙ p.rest i (omega arith) q;
-}
-  where
-    pick : (i : ℕ) → i < n + 1 → Dec (n ≡ i) → get_or (set xs n v) i 0 ≡ f i
-    pick i l (yes z) = subst (λ (j : ℕ). get_or (set xs n v) j 0 ≡ f j) z (get_or-set_same xs n v 0 (omega (arith, p.long)) ∙ e)
-    pick i l (no z) = get_or-set_other xs n i v 0 (λ q. z (sym q)) ∙ p.given i (omega arith)
-
--- the entries of the numbers below n are given
-pub record LimitsRun (l : Layout) (st : List ℕ) (n : ℕ) (low high : List ℕ) : Type 0 where
+-- the entries of the numbers below n are given, and each other admits nothing
+pub record LimitsRun (l : Layout) (st : List ℕ) (n : ℕ) (limits : List Limit) : Type 0 where
   pub few : l.names ≤ 60
-  pub lows : Filled (least_held l.free) 1 n low
-  pub highs : Filled (largest_held l (last_stamps st)) 0 n high
+  pub long : length limits ≡ 64
+  pub given : (i : ℕ) → i < n → get_or limits i past ≡ limit_of l (last_stamps st) i
+  pub rest : (i : ℕ) → n ≤ i → i < 64 → get_or limits i past ≡ shut
 
 module _ (l : Layout) (st : List ℕ) where
-  pub limits_start : l.names ≤ 60 → LimitsRun l st 0 (replicate 64 1) (replicate 64 0)
-  limits_start h = record {
+  pub limits_start : (limits : List Limit) → l.names ≤ 60 → limits ≡ replicate 64 shut → LimitsRun l st 0 limits
+  limits_start limits h e = record {
     few = h;
-    lows = filled-start (least_held l.free) 1;
-    highs = filled-start (largest_held l (last_stamps st)) 0;
+    long = ap length e ∙ length-replicate {A = Limit} 64 shut;
+    given = λ i l. absurd (omega arith);
+    rest = λ i _ q. ap (λ (x : List Limit). get_or x i past) e ∙ get_or-replicate 64 i shut past q;
   }
 
-  module _ (n : ℕ) (low high : List ℕ) (p : LimitsRun l st n low high) where
-    pub limits_turn : (v w : ℕ) → n < l.names → v ≡ least_held l.free n → w ≡ largest_held l (last_stamps st) n
-        → LimitsRun l st (n + 1) (set low n v) (set high n w)
-    limits_turn v w h e q = record {
-      few = p.few;
-      lows = filled-turn (least_held l.free) 1 n low v p.lows (omega (arith, p.few)) e;
-      highs = filled-turn (largest_held l (last_stamps st)) 0 n high w p.highs (omega (arith, p.few)) q;
-    }
+  pub limits_turn : (n : ℕ) (limits : List Limit) → LimitsRun l st n limits → (r : Limit) → n < l.names → r.low ≡ least_held l.kinds.free n → r.high ≡ largest_held l (last_stamps st) n
+      → LimitsRun l st (n + 1) (set limits n r)
+  limits_turn n limits p r h e q = record {
+    few = p.few;
+    long = length-set limits n r ∙ p.long;
+    given = set_entry past (λ i x. x ≡ limit_of l (last_stamps st) i) limits n r (omega (arith, p.few, p.long)) p.given (λ i. record { low = e i; high = q i });
+    rest = λ i a b. get_or-set_other limits n i r past (omega arith) ∙ p.rest i (omega arith) b;
+  }
 
 -- ---- the limits are those of the held names in order
 
@@ -179,24 +167,24 @@ module _ (image : List ℕ) (l : Layout) (last : ℕ → ℕ) (lay : LayoutOf im
   isnt_free : kind ≢ 0 → (kind is 0) ≡ false
   isnt_free f = false_of (kind is 0) (λ t. f ((is_iff kind 0).0 t))
 
-  low_free : kind ≡ 0 → held n 0 ≡ least_held l.free n
-  low_free e = least_free l.free n (kind is 0) (kind_set 0 l.free lay.frame.free) _ (is_free_lem e) refl
+  low_free : kind ≡ 0 → held n 0 ≡ least_held l.kinds.free n
+  low_free e = least_free l.kinds.free n (kind is 0) (kind_set 0 l.kinds.free lay.frame.free) _ (is_free_lem e) refl
 
-  low_made : kind ≢ 0 → held n 1 ≡ least_held l.free n
-  low_made f = least_made l.free n (kind is 0) (kind_set 0 l.free lay.frame.free) _ (isnt_free f) refl
+  low_made : kind ≢ 0 → held n 1 ≡ least_held l.kinds.free n
+  low_made f = least_made l.kinds.free n (kind is 0) (kind_set 0 l.kinds.free lay.frame.free) _ (isnt_free f) refl
 
   high_free : kind ≡ 0 → held n 0 ≡ largest_held l last n
-  high_free e = largest_free l last n (kind is 0) (kind_set 0 l.free lay.frame.free) _ (is_free_lem e) refl
+  high_free e = largest_free l last n (kind is 0) (kind_set 0 l.kinds.free lay.frame.free) _ (is_free_lem e) refl
 
   high_received : kind ≡ 2 → 0 ≡ largest_held l last n
   high_received e =
-      largest_received l last n (kind is 0) (kind_set 0 l.free lay.frame.free) (isnt_free (λ z. absurd (omega arith))) (kind is 2) (kind_set 2 l.received lay.frame.received)
+      largest_received l last n (kind is 0) (kind_set 0 l.kinds.free lay.frame.free) (isnt_free (λ z. absurd (omega arith))) (kind is 2) (kind_set 2 l.kinds.received lay.frame.received)
       (true_of (kind is 2) ((is_iff kind 2).1 e))
 
   high_made : (o : Option ℕ) → owner (model_of image) n ≡ o → kind ≢ 0 → kind ≢ 2 → elim o [ none ↦ 0 | some b ↦ held n (last b) ] ≡ largest_held l last n
   unfolding largest_made
   high_made o e f g =
-      largest_made_lem l last n (kind is 0) (kind_set 0 l.free lay.frame.free) (isnt_free f) (kind is 2) (kind_set 2 l.received lay.frame.received) _
+      largest_made_lem l last n (kind is 0) (kind_set 0 l.kinds.free lay.frame.free) (isnt_free f) (kind is 2) (kind_set 2 l.kinds.received lay.frame.received) _
       (false_of (kind is 2) (λ t. g ((is_iff kind 2).0 t)))
       (ap (λ (x : Option ℕ). elim x as (λ _. ℕ) [ none ↦ 0 | some b ↦ held n (last b) ]) (sym (binder_owner image l n lay (omega arith) ∙ e)))
 
@@ -205,7 +193,7 @@ module _ (image : List ℕ) (l : Layout) (last : ℕ → ℕ) (lay : LayoutOf im
   abbrev name : ℕ
   name = held_number v
 
-  between_fits : least_held l.free name ≤ v → v ≤ largest_held l last name → HeldFits (model_of image) last v
+  between_fits : least_held l.kinds.free name ≤ v → v ≤ largest_held l last name → HeldFits (model_of image) last v
   unfolding held held_stamp held_number
   between_fits a b = record {
     given = some-held;
@@ -223,11 +211,11 @@ module _ (image : List ℕ) (l : Layout) (last : ℕ → ℕ) (lay : LayoutOf im
           let low = low_made image l last lay few name inside f in
           (c, e, omega arith, omega arith)
 
-  fits_between : HeldFits (model_of image) last v → (least_held l.free name ≤ v) × (v ≤ largest_held l last name)
+  fits_between : HeldFits (model_of image) last v → (least_held l.kinds.free name ≤ v) × (v ≤ largest_held l last name)
   unfolding held held_stamp held_number
   fits_between h = pick (ℕ_discrete (kind_of_name (model_of image).kinds name) 0)
     where
-      pick : Dec (kind_of_name (model_of image).kinds name ≡ 0) → (least_held l.free name ≤ v) × (v ≤ largest_held l last name)
+      pick : Dec (kind_of_name (model_of image).kinds name ≡ 0) → (least_held l.kinds.free name ≤ v) × (v ≤ largest_held l last name)
       pick (yes e) =
           let z = h.free e in
           (omega (arith, low_free image l last lay few name inside e), omega (arith, high_free image l last lay few name inside e))
@@ -236,7 +224,7 @@ module _ (image : List ℕ) (l : Layout) (last : ℕ → ℕ) (lay : LayoutOf im
           let high = high_made image l last lay few name inside (some x.0) x.1 f h.not_received in
           (omega (arith, low_made image l last lay few name inside f, x.2), omega (arith, x.3))
 
-module _ (l : Layout) (st : List ℕ) (n : ℕ) (limits : Limits) (p : LimitsRun l st n limits.low limits.high) (so_far : n ≤ l.names) (done : l.names ≤ n) where
+module _ (l : Layout) (st : List ℕ) (n : ℕ) (limits : List Limit) (p : LimitsRun l st n limits) (so_far : n ≤ l.names) (done : l.names ≤ n) where
   module _ (image : List ℕ) (lay : LayoutOf image l) where
     last : ℕ → ℕ
     last = last_stamps st
@@ -245,10 +233,11 @@ module _ (l : Layout) (st : List ℕ) (n : ℕ) (limits : Limits) (p : LimitsRun
     none_out : (v : ℕ) → v ≡ 0 → T (in_limits limits v) → ⊥
     unfolding in_limits entry_of
     none_out v e t =
-        let a = (upto_iff (get_or limits.low (entry_of v) 0) v).0 ((and_iff (get_or limits.low (entry_of v) 0 upto v) (v upto get_or limits.high (entry_of v) 0)).0 t).0 in
-        omega (arith, p.few, p.lows.rest (entry_of v) (omega (arith, p.few)) (omega arith))
+        let x = get_or limits (entry_of v) past in
+        let a = (upto_iff x.low v).0 ((and_iff (x.low upto v) (v upto x.high)).0 t).0 in
+        omega (arith, p.few, ap (λ (y : Limit). y.low) (p.rest (entry_of v) (omega (arith, p.few)) (omega arith)))
 
-    limit_at : (v : ℕ) → v ≢ 0 → T (in_limits limits v) ↔ ((get_or limits.low (held_number v) 0 ≤ v) × (v ≤ get_or limits.high (held_number v) 0))
+    limit_at : (v : ℕ) → v ≢ 0 → T (in_limits limits v) ↔ (((get_or limits (held_number v) past).low ≤ v) × (v ≤ (get_or limits (held_number v) past).high))
     unfolding in_limits entry_of held_number
     limit_at v f =
         let e : (v + 63) % 64 ≡ (v - 1) % 64 = omega arith in
@@ -258,14 +247,14 @@ module _ (l : Layout) (st : List ℕ) (n : ℕ) (limits : Limits) (p : LimitsRun
     unfolding last
     inside_limits v f (yes h) =
         let q : held_number v < n = omega arith in
-        let a = p.lows.given (held_number v) q in
-        let b = p.highs.given (held_number v) q in (
+        let a = ap (λ (y : Limit). y.low) (p.given (held_number v) q) in
+        let b = ap (λ (y : Limit). y.high) (p.given (held_number v) q) in (
           λ t. let x = (limit_at v f).0 t in between_fits image l last lay p.few v f h (omega arith) (omega arith),
           λ k. let x = fits_between image l last lay p.few v f h k in (limit_at v f).1 (omega arith, omega arith),
         )
     inside_limits v f (no h) =
         let small : held_number v < 64 = number_low v in
-        let b = p.highs.rest (held_number v) (omega arith) small in (
+        let b = ap (λ (y : Limit). y.high) (p.rest (held_number v) (omega arith) small) in (
           λ t. absurd (let x = (limit_at v f).0 t in omega arith),
           λ k. absurd (omega (arith, k.listed, lay.frame.names, ap length (model_kinds image), model_names image)),
         )

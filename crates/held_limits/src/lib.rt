@@ -1,37 +1,42 @@
 #![tactic(auto, using(crate::proofs::LimitLaws::limits))]
-// The held names that are in order, by two tables made once for a state: for each name's number the least and the largest.
+// The held names that are in order, by a table made once for a state: for each name's number the least and the largest.
+// Bounds of indices and counts stand in the clauses: a type for each bound would be taken apart at every use.
 ghost use Rattle.std.specs.Prelude.{◌≡◌, ◌*◌, ◌<◌, ◌≤◌, length};
 ghost use Rattle.definitions.specs.Bounded.{all_below};
 ghost use Rattle.definitions.specs.Limits.{name_limit, box_limit};
 ghost use Rattle.definitions.specs.Record as records;
-ghost use Rattle.held_limits.specs.Limits.{entry_of, in_limits, least_held, largest_made, largest_held, last_fits, StampsFit, LimitsFor};
+ghost use Rattle.held_limits.specs.Limits.{entry_of, in_limits, least_held, largest_held, last_fits, StampsFit, LimitsFor};
 
 use layouts::Layout;
 use sets::NameNo;
 use state::Held;
 
-// The least and the largest held name that is in order, for each entry.
-#[derive(Drop)]
-pub struct Limits {
-    pub low: [u32; 64],
-    pub high: [u32; 64],
+// The least and the largest held name of one number that is in order.
+#[derive(Clone, Copy)]
+pub struct Limit {
+    pub low: u32,
+    pub high: u32,
 }
 
-// The entry of a held name in the tables.
+// No held name is in order.
+pub const NO_LIMIT: Limit = Limit { low: 1, high: 0 };
+
+// The entry of a held name in the limits.
 fn entry(v: Held) -> usize
     ensures { result ≡ entry_of v.0 }
 {
     v.0.wrapping_sub(1) as usize % 64
 }
 
-// Held name v lies within its limits.
-pub fn held_fits(limits: &Limits, v: Held) -> bool
+// Held name v lies within its limits: two comparisons on one entry, with no branch.
+pub fn held_fits(limits: &[Limit; 64], v: Held) -> bool
     ensures { result ≡ in_limits limits.now v.0 }
 {
-    let n = entry(v);
-    (limits.low[n] <= v.0) & (v.0 <= limits.high[n])
+    let limit = limits[entry(v)];
+    (limit.low <= v.0) & (v.0 <= limit.high)
 }
 
+// The state is a slice, as C lends it; its length is a clause.
 fn last_stamp(state: &[u32], b: usize) -> u32
     requires long { length state.now ≡ records.state_length }
     requires there { b < box_limit }
@@ -53,56 +58,40 @@ pub fn stamps_fit(state: &[u32], boxes: usize) -> bool
     ok
 }
 
-// The least held name of number n: with stamp 0 where the name is free, else with stamp 1.
-fn least(free: u64, n: NameNo) -> u32
-    requires { n.0 < name_limit }
-    ensures { result ≡ least_held free n.0 }
-{
-    if sets::contains(free, n) {
-        state::stamped(n, 0).0
-    } else {
-        state::stamped(n, 1).0
-    }
-}
-
-// The largest held name of number n: with the last stamp of the box that binds the name; 0 where none does.
-fn largest_made(bound: &[u64; 8], boxes: usize, state: &[u32], n: NameNo) -> u32
-    requires stamps { StampsFit state.now boxes }
-    requires name { n.0 < name_limit }
-    ensures { result ≡ largest_made bound.now boxes (records.last_stamps state.now) n.0 }
-{
-    match layouts::owner_of(bound, boxes, n) {
-        Some(b) => state::stamped(n, last_stamp(state, b)).0,
-        None => 0,
-    }
-}
-
-// The largest held name of number n, or 0 where no such held name is in order.
-fn largest(layout: &Layout, state: &[u32], n: NameNo) -> u32
+// The limits of number n: a free name has stamp 0; a made one has stamp 1 at least, and at most the last stamp of the box that binds it. Where
+// none is in order the largest is 0, not None: a limit is a number, and no held name is at most 0.
+fn limit_of(layout: &Layout, state: &[u32], n: NameNo) -> Limit
     requires stamps { StampsFit state.now layout.now.boxes }
     requires name { n.0 < name_limit }
-    ensures { result ≡ largest_held layout.now (records.last_stamps state.now) n.0 }
+    ensures low { result.low ≡ least_held layout.now.kinds.free n.0 }
+    ensures high { result.high ≡ largest_held layout.now (records.last_stamps state.now) n.0 }
 {
-    if sets::contains(layout.free, n) {
-        return state::stamped(n, 0).0;
+    if sets::contains(layout.kinds.free, n) {
+        let v = state::stamped(n, 0).0;
+        return Limit { low: v, high: v };
     }
-    if sets::contains(layout.received, n) {
-        return 0;
+    let low = state::stamped(n, 1).0;
+    if sets::contains(layout.kinds.received, n) {
+        return Limit { low, high: 0 };
     }
-    largest_made(&layout.bound, layout.boxes, state, n)
+    match layout.owner_of(n) {
+        Some(b) => Limit {
+            low,
+            high: state::stamped(n, last_stamp(state, b)).0,
+        },
+        None => Limit { low, high: 0 },
+    }
 }
 
 // The limits of the names of a model, for a state whose last stamps are at most the limit; an entry that is no name's admits nothing.
-pub fn set_limits(limits: &mut Limits, layout: Layout, state: &[u32])
-    requires stamps { StampsFit state.now layout.boxes }
-    requires few { layout.names ≤ name_limit }
-    ensures { LimitsFor layout state.now limits.new }
+// No struct joins state and layout: who has both apart would tie its layout to the model's by one clause more.
+pub fn set_limits(limits: &mut [Limit; 64], layout: &Layout, state: &[u32])
+    requires stamps { StampsFit state.now layout.now.boxes }
+    requires few { layout.now.names ≤ name_limit }
+    ensures { LimitsFor layout.now state.now limits.new }
 {
-    limits.low = [1; 64];
-    limits.high = [0; 64];
+    limits.fill(NO_LIMIT);
     for n in 0..layout.names {
-        let name = NameNo(n as u8);
-        limits.low[n] = least(layout.free, name);
-        limits.high[n] = largest(&layout, state, name);
+        limits[n] = limit_of(layout, state, NameNo(n as u8));
     }
 }

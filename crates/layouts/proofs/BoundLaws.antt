@@ -1,5 +1,5 @@
 -- Laws of the names that the lines of each box bind, filled into a frame box by box. Assumes nothing.
-use mathlib.Core.Path.{◌≡◌, sym, ap, ap₂, ◌∙◌}
+use mathlib.Core.Path.{◌≡◌, refl, sym, ap, ap₂, ◌∙◌}
 use mathlib.Core.List.{List}
 use mathlib.Core.Option.{none}
 use Prim.Native.Nat.{ℕ, ◌+◌, ◌≤◌, ◌<◌}
@@ -17,41 +17,10 @@ use Rattle.records.specs.NameSets.{SetOf}
 use Rattle.records.specs.Places.{LinesThere, line_record_at}
 use Rattle.box_runs.specs.Runs.{bound_in}
 use Rattle.layouts.specs.declared.Layout.{Layout}
-use Rattle.layouts.specs.LayoutOf.{FrameOf, LayoutOf}
-use Rattle.layouts.proofs.LayoutLaws.{right, set_entry}
+use Rattle.layouts.specs.declared.BoxPlace.{BoxPlace}
+use Rattle.layouts.specs.LayoutOf.{nowhere, FrameOf, LayoutOf}
+use Rattle.layouts.proofs.LayoutLaws.{right, set_one, set_entry}
 use Rattle.layouts.proofs.FrameLaws.{inside, lines_at}
-
--- a frame with the names that lines bind is a layout
-pub frame_bound : (image : List ℕ) (l : Layout) (x : List ℕ) → FrameOf image l
-    → ((b : ℕ) → b < boxes_of image → (n : ℕ) → n < 64 → has (get_or x b 0) n ≡ binds_in (box_of_image image b) n)
-    → LayoutOf image (record {
-      names = l.names;
-      boxes = l.boxes;
-      at = l.at;
-      sites = l.sites;
-      lines = l.lines;
-      bound = x;
-      listed = l.listed;
-      free = l.free;
-      restricted = l.restricted;
-      received = l.received;
-      exposed = l.exposed;
-    })
-frame_bound image l x h f = record {
-  frame = record {
-    names = h.names;
-    boxes = h.boxes;
-    at = h.at;
-    sites = h.sites;
-    lines = h.lines;
-    listed = h.listed;
-    free = h.free;
-    restricted = h.restricted;
-    received = h.received;
-    exposed = h.exposed;
-  };
-  bound = f;
-}
 
 -- the lines of a box in its image bind what the box's lines bind
 bound_box : (image : List ℕ) (b n : ℕ) → bound_in image (sites_block image b) (lines_of image b) n ≡ binds_in (box_of_image image b) n
@@ -61,50 +30,87 @@ bound_box image b n =
     (λ i l. ap (λ (y : Line). binds y n) (sym (box_line image b i l)))
     ∙ ap (λ (m : ℕ). any_below m (λ i. binds (line_at (box_of_image image b) i) n)) (sym (box_lines image b))
 
--- the names that the lines of the boxes before b bind
-pub record BoundSoFar (image : List ℕ) (boxes b : ℕ) (bound : List ℕ) : Type 0 where
-  pub few : boxes ≤ 8
-  pub long : length bound ≡ 8
-  pub binders : (c : ℕ) → c < b → (n : ℕ) → n < 64 → has (get_or bound c 0) n ≡ binds_in (box_of_image image c) n
+-- places that are those of a frame, whatever names are bound in them
+pub record SamePlace (p q : BoxPlace) : Type 0 where
+  pub at : p.at ≡ q.at
+  pub sites : p.sites ≡ q.sites
+  pub lines : p.lines ≡ q.lines
+
+pub record Kept (l : Layout) (each : List BoxPlace) : Type 0 where
+  pub few : l.boxes ≤ 8
+  pub long : length each ≡ 8
+  pub same : (b : ℕ) → SamePlace (get_or each b nowhere) (get_or l.each b nowhere)
+
+-- a place with other names
+abbrev pub bound_to : BoxPlace → ℕ → BoxPlace
+bound_to p w = record { at = p.at; sites = p.sites; lines = p.lines; bound = w }
+
+-- what is said of the names that the lines of each box bind
+abbrev pub Binds : List ℕ → ℕ → BoxPlace → Type 0
+Binds image b p = (n : ℕ) → n < 64 → has p.bound n ≡ binds_in (box_of_image image b) n
+
+module _ (l : Layout) where
+  pub kept_start : l.boxes ≤ 8 → length l.each ≡ 8 → Kept l l.each
+  kept_start h e = record { few = h; long = e; same = λ b. record { at = refl; sites = refl; lines = refl } }
+
+  module _ (each : List BoxPlace) (k : Kept l each) where
+    pub kept_turn : (b w : ℕ) → b < 8 → Kept l (set each b (bound_to (get_or each b nowhere) w))
+    kept_turn b w h = record {
+      few = k.few;
+      long = length-set each b (bound_to (get_or each b nowhere) w) ∙ k.long;
+      same = λ c.
+          set_one nowhere (λ c p. SamePlace p (get_or l.each c nowhere)) each b (bound_to (get_or each b nowhere) w) (omega (arith, k.long))
+          (record { at = (k.same b).at; sites = (k.same b).sites; lines = (k.same b).lines }) c (λ _. k.same c);
+    }
+
+    pub kept_layout : (image : List ℕ) → FrameOf image l → ((b : ℕ) → b < boxes_of image → Binds image b (get_or each b nowhere))
+        → LayoutOf image (record { names = l.names; boxes = l.boxes; each = each; kinds = l.kinds })
+    kept_layout image h f = record {
+      frame = record {
+        names = h.names;
+        boxes = h.boxes;
+        at = λ b q. (k.same b).at ∙ h.at b q;
+        sites = λ b q. (k.same b).sites ∙ h.sites b q;
+        lines = λ b q. (k.same b).lines ∙ h.lines b q;
+        listed = h.listed;
+        free = h.free;
+        restricted = h.restricted;
+        received = h.received;
+        exposed = h.exposed;
+      };
+      bound = f;
+    }
+
+-- the names that the lines of the boxes before b bind are put into the places of a frame
+pub record BoundSoFar (image : List ℕ) (l : Layout) (b : ℕ) (each : List BoxPlace) : Type 0 where
+  pub kept : Kept l each
+  pub binders : (c : ℕ) → c < b → Binds image c (get_or each c nowhere)
 
 module _ (image : List ℕ) (l : Layout) (f : blocks_fault image ≡ none) (h : FrameOf image l) where
-  pub bound_start : (bound : List ℕ) → length bound ≡ 8 → BoundSoFar image l.boxes 0 bound
-  bound_start bound e = record { few = omega (arith, (right image f).head.boxes, h.boxes); long = e; binders = λ c l. absurd (omega arith) }
+  pub bound_start : length l.each ≡ 8 → BoundSoFar image l 0 l.each
+  bound_start e = record { kept = kept_start l (omega (arith, (right image f).head.boxes, h.boxes)) e; binders = λ c l. absurd (omega arith) }
 
   module _ (b : ℕ) (q : b < l.boxes) where
-    pub bound-there : LinesThere image (get_or l.at b 0) (get_or l.lines b 0)
+    pub bound-there : LinesThere image (get_or l.each b nowhere).at (get_or l.each b nowhere).lines
     bound-there = (lines_at image l f h b q).there
 
-    pub bound_more : (bound : List ℕ) → BoundSoFar image l.boxes b bound → (w : ℕ) → SetOf w (bound_in image (get_or l.at b 0) (get_or l.lines b 0))
-        → BoundSoFar image l.boxes (b + 1) (set bound b w)
-    bound_more bound p w s =
+    pub bound_more : (each : List BoxPlace) → BoundSoFar image l b each → (w : ℕ) → SetOf w (bound_in image (get_or l.each b nowhere).at (get_or l.each b nowhere).lines)
+        → BoundSoFar image l (b + 1) (set each b (bound_to (get_or each b nowhere) w))
+    bound_more each p w s =
         let k = inside image l f h b q in
         record {
-          few = p.few;
-          long = length-set bound b w ∙ p.long;
-          binders = set_entry (λ c v. (n : ℕ) → n < 64 → has v n ≡ binds_in (box_of_image image c) n) bound b w (omega (arith, p.few, p.long)) p.binders
+          kept = kept_turn l each p.kept b w (omega (arith, p.kept.few));
+          binders = set_entry nowhere (Binds image) each b (bound_to (get_or each b nowhere) w) (omega (arith, p.kept.few, p.kept.long)) p.binders
               (λ n z. s.at n z ∙ ap₂ (λ (i m : ℕ). bound_in image i m n) (h.at b k) (h.lines b k) ∙ bound_box image b n);
         }
 
-pub bound_end : (image : List ℕ) (l : Layout) (b : ℕ) (bound : List ℕ) → FrameOf image l → BoundSoFar image l.boxes b bound → l.boxes ≤ b
-    → LayoutOf image (record {
-      names = l.names;
-      boxes = l.boxes;
-      at = l.at;
-      sites = l.sites;
-      lines = l.lines;
-      bound = bound;
-      listed = l.listed;
-      free = l.free;
-      restricted = l.restricted;
-      received = l.received;
-      exposed = l.exposed;
-    })
-bound_end image l b bound h p q = frame_bound image l bound h (λ c k. p.binders c (omega (arith, h.boxes)))
+pub bound_end : (image : List ℕ) (l : Layout) (b : ℕ) (each : List BoxPlace) → FrameOf image l → BoundSoFar image l b each → l.boxes ≤ b
+    → LayoutOf image (record { names = l.names; boxes = l.boxes; each = each; kinds = l.kinds })
+bound_end image l b each h p q = kept_layout l each p.kept image h (λ c k. p.binders c (omega (arith, h.boxes)))
 
 -- the names that a layout says a box binds are those of the model's box
 pub binds_in_lem : (image : List ℕ) (l : Layout) → blocks_fault image ≡ none → LayoutOf image l → (b : ℕ) → b < l.boxes
-    → SetOf (get_or l.bound b 0) (binds_in (box_at (model_of image) b))
+    → SetOf (get_or l.each b nowhere).bound (binds_in (box_at (model_of image) b))
 binds_in_lem image l f h b q =
     let k = inside image l f h.frame b q in
     record { at = λ n z. h.bound b k n z ∙ ap (λ (x : Box). binds_in x n) (sym (model_box image b k)) }

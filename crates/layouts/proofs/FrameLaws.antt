@@ -22,7 +22,7 @@ use Rattle.records.specs.NameSets.{SetOf, lacks}
 use Rattle.records.specs.Places.{LinesAt, SitesAt}
 use Rattle.record_rules.specs.Rules.{KindsIn, is_free_or_unlisted}
 use Rattle.layouts.specs.declared.Layout.{Layout}
-use Rattle.layouts.specs.LayoutOf.{FrameOf, LayoutOf}
+use Rattle.layouts.specs.LayoutOf.{nowhere, FrameOf, LayoutOf}
 use Rattle.layouts.proofs.LayoutLaws.{right}
 
 -- a layout has a frame
@@ -54,7 +54,7 @@ module _ (image : List ℕ) (l : Layout) (f : blocks_fault image ≡ none) (h : 
   pub past_model : (b : ℕ) → l.boxes ≤ b → box_count (model_of image) ≤ b
   past_model b q = let z = model_count image in let k = h.boxes in omega arith
 
-  pub lines_at : (b : ℕ) → b < l.boxes → LinesAt image b (get_or l.at b 0) (get_or l.lines b 0)
+  pub lines_at : (b : ℕ) → b < l.boxes → LinesAt image b (get_or l.each b nowhere).at (get_or l.each b nowhere).lines
   lines_at b q =
       let k = inside b q in
       let e = h.at b k in
@@ -69,7 +69,7 @@ module _ (image : List ℕ) (l : Layout) (f : blocks_fault image ≡ none) (h : 
         };
       }
 
-  pub sites-at : (b : ℕ) → b < l.boxes → SitesAt image b (get_or l.at b 0) (get_or l.sites b 0)
+  pub sites-at : (b : ℕ) → b < l.boxes → SitesAt image b (get_or l.each b nowhere).at (get_or l.each b nowhere).sites
   sites-at b q =
       let k = inside b q in
       let e = h.at b k in
@@ -82,10 +82,10 @@ module _ (image : List ℕ) (l : Layout) (f : blocks_fault image ≡ none) (h : 
         there = rw e (sites-there image (right image f) b k);
       }
 
-  pub site-there : (b : ℕ) → b < l.boxes → 512 * (get_or l.at b 0 + 1) ≤ length image
+  pub site-there : (b : ℕ) → b < l.boxes → 512 * ((get_or l.each b nowhere).at + 1) ≤ length image
   site-there b q = (sites-at b q).there
 
-  pub site_few : (b : ℕ) → b < l.boxes → get_or l.sites b 0 ≤ 31
+  pub site_few : (b : ℕ) → b < l.boxes → (get_or l.each b nowhere).sites ≤ 31
   site_few b q = let z = (sites-at b q).few in omega arith
 
   -- the kinds of names
@@ -96,11 +96,11 @@ module _ (image : List ℕ) (l : Layout) (f : blocks_fault image ≡ none) (h : 
   listed-is : (n : ℕ) → (n below name_count image) ≡ listed (kinds_of image) n
   listed-is n = ap (λ (m : ℕ). n below m) (sym (model_names image))
 
-  pub free_in : SetOf l.free (is_free (model_of image).kinds)
+  pub free_in : SetOf l.kinds.free (is_free (model_of image).kinds)
   unfolding model_of
   free_in = record { at = λ n q. h.free n q ∙ ap (λ (t : Bool). t and kind_of_name (kinds_of image) n is 0) (listed-is n) }
 
-  pub kinds_in : KindsIn (model_of image).kinds l.listed l.restricted l.received l.exposed
+  pub kinds_in : KindsIn (model_of image).kinds l.kinds.listed l.kinds.restricted l.kinds.received l.kinds.exposed
   unfolding model_of
   kinds_in = record {
     few = (let z = model_names image in let k = (right image f).head.names in omega arith);
@@ -110,7 +110,7 @@ module _ (image : List ℕ) (l : Layout) (f : blocks_fault image ≡ none) (h : 
     exposed = record { at = λ n q. h.exposed n q ∙ ap (λ (t : Bool). t and kind_of_name (kinds_of image) n is 3) (listed-is n) };
   }
 
-  pub free_or_unlisted_in : (o p : ℕ) → SetOf o (lacks l.listed) → ((m : ℕ) → has p m ≡ (has l.free m or has o m)) → SetOf p (is_free_or_unlisted (model_of image).kinds)
+  pub free_or_unlisted_in : (o p : ℕ) → SetOf o (lacks l.kinds.listed) → ((m : ℕ) → has p m ≡ (has l.kinds.free m or has o m)) → SetOf p (is_free_or_unlisted (model_of image).kinds)
   unfolding model_of lacks is_free_or_unlisted
   free_or_unlisted_in o p s u = record {
     at = λ n q. u n ∙ ap₂ ◌or◌ (h.free n q) (s.at n q ∙ ap not (h.listed n q)) ∙ pick n (dec_lt n (name_count image));

@@ -2,7 +2,7 @@
 use mathlib.Core.Path.{◌≡◌, refl, sym, ap, ◌∙◌, subst}
 use mathlib.Core.Bool.{Bool}
 use mathlib.Core.List.{List}
-use mathlib.Core.Logic.{◌⊎◌, inl, inr, ⊎_elim}
+use mathlib.Core.Logic.{◌⊎◌, inl, inr, ⊎_elim, ◌≢◌}
 use mathlib.Core.Option.{none}
 use Prim.Native.Nat.{ℕ, ◌+◌, ◌-◌, ◌*◌, ◌≤◌, ◌<◌, zero-le}
 use native.Mathlib.Nat.{le_refl}
@@ -22,11 +22,11 @@ use Rattle.definitions.proofs.Bounded.{and_iff, or_iff, is_iff, below_iff, false
 use Rattle.definitions.proofs.Sets.{has-none}
 use Rattle.definitions.proofs.Image.{model_kind}
 use Rattle.definitions.proofs.ReadModel.{Blocks, blocks_iff, some_block, most_blocks, sites-first, sites-next, lines_most}
-use Rattle.line_table.specs.declared.Kinds.{Kinds}
-use Rattle.layouts.specs.declared.BoxLayout.{BoxLayout}
+use Rattle.records.specs.declared.Kinds.{Kinds}
+use Rattle.layouts.specs.declared.BoxPlace.{BoxPlace}
 use Rattle.records.specs.NameSets.{SetOf, insert_if}
-use Rattle.layouts.specs.Layouts.{is_below, kind_in, line_total, KindInserted, KindSetsOf, BoxLayoutOf}
-use Rattle.layouts.specs.LayoutOf.{FrameOf, OfKind}
+use Rattle.layouts.specs.Layouts.{is_below, kind_in, line_total, KindInserted, KindSetsOf, BoxPlaceOf}
+use Rattle.layouts.specs.LayoutOf.{nowhere, FrameOf, OfKind}
 
 -- ---- the names by kind
 
@@ -122,10 +122,6 @@ module _ (image : List ℕ) (k n : ℕ) (e : n ≡ line_blocks 4 image (k + 1)) 
   total_is c q =
       ap (λ (i : ℕ). 31 * (n - 1) + i) q ∙ ap (λ (m : ℕ). 31 * (m - 1) + count_of (block_of image (k + m))) e
 
-pub box_layout_is : (image : List ℕ) (k n c m : ℕ) → n ≡ line_total image k → c ≡ count_of (block_of image k) → m ≡ line_blocks 4 image (k + 1)
-    → BoxLayoutOf image k (record { sites = c; lines = n; next = k + 1 + m })
-box_layout_is image k n c m e q z = record { sites = q; lines = e; next = ap (λ (i : ℕ). k + 1 + i) z }
-
 -- ---- the head
 
 module _ (image : List ℕ) (f : blocks_fault image ≡ none) where
@@ -142,77 +138,68 @@ module _ (image : List ℕ) (f : blocks_fault image ≡ none) where
   unfolding name_count
   names_few w e = let h = right.head.names in omega arith
 
--- ---- the rows of boxes
+-- ---- the boxes
 
--- an entry written: what held of the entries before it and of its value holds up to it
-module _ (P : ℕ → ℕ → Type 0) where
-  pub set_entry : (xs : List ℕ) (b v : ℕ) → b < length xs → ((c : ℕ) → c < b → P c (get_or xs c 0)) → P b v → (c : ℕ) → c < b + 1 → P c (get_or (set xs b v) c 0)
-  set_entry xs b v l f p c h = pick (ℕ_discrete b c)
+-- an entry written: what holds of its value, and of each other entry, holds of each
+module _ {A : Type 0} (d : A) (P : ℕ → A → Type 0) where
+  pub set_one : (xs : List A) (b : ℕ) (v : A) → b < length xs → P b v → (c : ℕ) → (b ≢ c → P c (get_or xs c d)) → P c (get_or (set xs b v) c d)
+  set_one xs b v l p c f = pick (ℕ_discrete b c)
     where
-      pick : Dec (b ≡ c) → P c (get_or (set xs b v) c 0)
-      pick (yes z) = subst (λ (d : ℕ). P d (get_or (set xs b v) d 0)) z (subst (P b) (sym (get_or-set_same xs b v 0 l)) p)
-      pick (no z) = subst (P c) (sym (get_or-set_other xs b c v 0 (λ q. z (sym q)))) (f c (omega arith))
+      pick : Dec (b ≡ c) → P c (get_or (set xs b v) c d)
+      pick (yes z) = subst (λ (i : ℕ). P i (get_or (set xs b v) i d)) z (subst (P b) (sym (get_or-set_same xs b v d l)) p)
+      pick (no z) = subst (P c) (sym (get_or-set_other xs b c v d (λ q. z (sym q)))) (f z)
 
--- the rows of the boxes before b
-pub record FrameSoFar (image : List ℕ) (boxes b k : ℕ) (at sites lines : List ℕ) : Type 0 where
+  -- so of those up to it
+  pub set_entry : (xs : List A) (b : ℕ) (v : A) → b < length xs → ((c : ℕ) → c < b → P c (get_or xs c d)) → P b v → (c : ℕ) → c < b + 1 → P c (get_or (set xs b v) c d)
+  set_entry xs b v l f p c h = set_one xs b v l p c (λ z. f c (omega arith))
+
+-- the places of the boxes before b
+pub record FrameSoFar (image : List ℕ) (boxes b k : ℕ) (each : List BoxPlace) : Type 0 where
   pub all : boxes ≡ boxes_of image
   pub few : boxes ≤ 8
   pub upto : b ≤ boxes
   pub here : k ≡ sites_block image b
   pub small : k ≤ 1 + 5 * b
-  pub at_long : length at ≡ 8
-  pub sites_long : length sites ≡ 8
-  pub lines_long : length lines ≡ 8
-  pub ats : (c : ℕ) → c < b → get_or at c 0 ≡ sites_block image c
-  pub counts : (c : ℕ) → c < b → get_or sites c 0 ≡ count_of (block_of image (sites_block image c))
-  pub totals : (c : ℕ) → c < b → get_or lines c 0 ≡ lines_of image c
+  pub long : length each ≡ 8
+  pub placed : (c : ℕ) → c < b → BoxPlaceOf image (sites_block image c) (get_or each c nowhere)
 
-pub frame_start : (image : List ℕ) (w : ℕ) (at sites lines : List ℕ) → blocks_fault image ≡ none → w ≡ data_word (block_of image 0) 1
-    → length at ≡ 8 → length sites ≡ 8 → length lines ≡ 8 → FrameSoFar image w 0 1 at sites lines
+pub frame_start : (image : List ℕ) (w : ℕ) (each : List BoxPlace) → blocks_fault image ≡ none → w ≡ data_word (block_of image 0) 1
+    → length each ≡ 8 → FrameSoFar image w 0 1 each
 unfolding boxes_of
-frame_start image w at sites lines f e la ls ll = record {
+frame_start image w each f e h = record {
   all = e;
   few = (let h = (right image f).head.boxes in omega arith);
   upto = zero-le;
   here = sites-first image;
   small = le_refl 1;
-  at_long = la;
-  sites_long = ls;
-  lines_long = ll;
-  ats = λ c l. absurd (omega arith);
-  counts = λ c l. absurd (omega arith);
-  totals = λ c l. absurd (omega arith);
+  long = h;
+  placed = λ c l. absurd (omega arith);
 }
 
 total_lines : (image : List ℕ) (b : ℕ) → line_total image (sites_block image b) ≡ lines_of image b
 unfolding line_total lines_of
 total_lines image b = refl
 
-module _ (image : List ℕ) (boxes b k : ℕ) (at sites lines : List ℕ) (p : FrameSoFar image boxes b k at sites lines) where
+module _ (image : List ℕ) (boxes b k : ℕ) (each : List BoxPlace) (p : FrameSoFar image boxes b k each) where
   pub box_small : b < boxes → k ≤ 99
   box_small l = let h = p.small in let q = p.few in omega arith
 
-  total_here : line_total image k ≡ lines_of image b
-  total_here = ap (line_total image) p.here ∙ total_lines image b
-
   pub total_few : blocks_fault image ≡ none → b < boxes → line_total image k ≤ 124
-  total_few f l = let z = p.all in omega (arith, total_here, lines_most image (right image f) b (omega arith))
+  total_few f l =
+      let e : line_total image k ≡ lines_of image b = ap (line_total image) p.here ∙ total_lines image b in
+      omega (arith, e, p.all, lines_most image (right image f) b (omega (arith, p.all)))
 
-  pub frame_more : (r : BoxLayout) → b < boxes → BoxLayoutOf image k r
-      → FrameSoFar image boxes (b + 1) r.next (set at b k) (set sites b r.sites) (set lines b r.lines)
-  frame_more r l t = record {
+  pub frame_more : (r : BoxPlace) (n : ℕ) → b < boxes → BoxPlaceOf image k r → n ≡ line_blocks 4 image (k + 1)
+      → FrameSoFar image boxes (b + 1) (k + (1 + n)) (set each b r)
+  frame_more r n l t e = record {
     all = p.all;
     few = p.few;
     upto = omega arith;
-    here = t.next ∙ sites-next image b k (line_blocks 4 image (k + 1)) p.here refl;
-    small = (let h = most_blocks 4 image (k + 1) in let z = p.small in let q = t.next in omega arith);
-    at_long = length-set at b k ∙ p.at_long;
-    sites_long = length-set sites b r.sites ∙ p.sites_long;
-    lines_long = length-set lines b r.lines ∙ p.lines_long;
-    ats = set_entry (λ c v. v ≡ sites_block image c) at b k (omega (arith, p.at_long, p.few)) p.ats p.here;
-    counts = set_entry (λ c v. v ≡ count_of (block_of image (sites_block image c))) sites b r.sites (omega (arith, p.sites_long, p.few)) p.counts
-        (t.sites ∙ ap (λ (i : ℕ). count_of (block_of image i)) p.here);
-    totals = set_entry (λ c v. v ≡ lines_of image c) lines b r.lines (omega (arith, p.lines_long, p.few)) p.totals (t.lines ∙ total_here);
+    here = (let z : k + (1 + n) ≡ k + 1 + n = omega arith in z) ∙ sites-next image b k n p.here e;
+    small = omega (arith, most_blocks 4 image (k + 1), p.small, e);
+    long = length-set each b r ∙ p.long;
+    placed = set_entry nowhere (λ c v. BoxPlaceOf image (sites_block image c) v) each b r (omega (arith, p.long, p.few)) p.placed
+        (subst (λ (i : ℕ). BoxPlaceOf image i r) p.here t);
   }
 
 -- ---- the whole
@@ -229,28 +216,23 @@ of_kind image names k s e p n l =
     (and_iff (n below name_count image) (data_word (block_of image 0) (2 + n) is k)).1
     (q.0, subst (λ (v : ℕ). T (v is k)) (model_kind image n ((below_iff n (name_count image)).0 q.0)) q.1))
 
-pub frame_end : (image : List ℕ) (names boxes b k : ℕ) (at sites lines bound : List ℕ) (s : Kinds) → FrameSoFar image boxes b k at sites lines → boxes ≤ b
+-- what is read of the head's block is read of the image's block 0
+pub word_of_head : (image head : List ℕ) (i w : ℕ) → head ≡ block_of image 0 → w ≡ data_word head i → w ≡ data_word (block_of image 0) i
+word_of_head image head i w e h = h ∙ ap (λ (x : List ℕ). data_word x i) e
+
+pub kinds_of_head : (image head : List ℕ) (n : ℕ) (s : Kinds) → head ≡ block_of image 0 → KindSetsOf head n s → KindSetsOf (block_of image 0) n s
+kinds_of_head image head n s e h = subst (λ (x : List ℕ). KindSetsOf x n s) e h
+
+pub frame_end : (image : List ℕ) (names boxes b k : ℕ) (each : List BoxPlace) (s : Kinds) → FrameSoFar image boxes b k each → boxes ≤ b
     → names ≡ data_word (block_of image 0) 0 → KindSetsOf (block_of image 0) names s
-    → FrameOf image (record {
-      names = names;
-      boxes = boxes;
-      at = at;
-      sites = sites;
-      lines = lines;
-      bound = bound;
-      listed = s.listed;
-      free = s.free;
-      restricted = s.restricted;
-      received = s.received;
-      exposed = s.exposed;
-    })
+    → FrameOf image (record { names = names; boxes = boxes; each = each; kinds = s })
 unfolding is_below name_count
-frame_end image names boxes b k at sites lines bound s p l e t = record {
+frame_end image names boxes b k each s p l e t = record {
   names = e;
   boxes = p.all;
-  at = λ c h. p.ats c (let z = p.all in omega arith);
-  sites = λ c h. p.counts c (let z = p.all in omega arith);
-  lines = λ c h. p.totals c (let z = p.all in omega arith);
+  at = λ c h. (p.placed c (omega (arith, p.all))).at;
+  sites = λ c h. (p.placed c (omega (arith, p.all))).sites;
+  lines = λ c h. (p.placed c (omega (arith, p.all))).lines ∙ total_lines image c;
   listed = λ n h. t.listed.at n h ∙ ap (λ (m : ℕ). n below m) e;
   free = of_kind image names 0 s.free e t.free;
   restricted = of_kind image names 1 s.restricted e t.restricted;
@@ -265,7 +247,6 @@ pub ruleset layouts = (
   some_lines,
   few_blocks,
   total_is,
-  box_layout_is,
   head_inside,
   head_long,
   names_few,

@@ -5,8 +5,8 @@ use Rattle.definitions.specs.Sets.{has}
 use Rattle.definitions.specs.Words.{block_of, count_of, data_word}
 use Rattle.definitions.specs.Image.{line_blocks}
 use Rattle.records.specs.NameSets.{SetOf, insert_if}
-use Rattle.line_table.specs.declared.Kinds.{Kinds}
-use Rattle.layouts.specs.declared.BoxLayout.{BoxLayout}
+use Rattle.records.specs.declared.Kinds.{Kinds}
+use Rattle.layouts.specs.declared.BoxPlace.{BoxPlace}
 
 -- the name m is one of the first n, and of kind k
 unfoldable pub kind_in : List ℕ → ℕ → ℕ → ℕ → Bool
@@ -36,7 +36,7 @@ pub record KindSetsOf (block : List ℕ) (n : ℕ) (r : Kinds) : Type 0 where
   pub exposed : SetOf r.exposed (kind_in block 3 n)
 
 -- the box whose sites are block k
-pub record BoxLayoutOf (image : List ℕ) (k : ℕ) (r : BoxLayout) : Type 0 where
+pub record BoxPlaceOf (image : List ℕ) (k : ℕ) (r : BoxPlace) : Type 0 where
+  pub at : r.at ≡ k
   pub sites : r.sites ≡ count_of (block_of image k)
   pub lines : r.lines ≡ line_total image k
-  pub next : r.next ≡ k + 1 + line_blocks 4 image (k + 1)

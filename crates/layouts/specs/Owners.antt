@@ -1,14 +1,11 @@
 -- The box that binds a name. Assumes nothing.
-use Rattle.std.specs.Prelude.{List, ℕ, get_or, Option, None, Some}
-use Rattle.std.proofs.Math.Option as paper
+use Rattle.std.specs.Prelude.{List, ℕ, get_or}
+use Rattle.std.proofs.Math.Option.{Option}
 use Rattle.definitions.specs.Bounded.{some_if, first_below}
 use Rattle.definitions.specs.Sets.{has}
+use Rattle.layouts.specs.declared.BoxPlace.{BoxPlace}
+use Rattle.layouts.specs.LayoutOf.{nowhere}
 
--- the code's answer in the paper's terms
-abbrev pub owner_in : Option ℕ → paper.Option ℕ
-owner_in None = paper.none
-owner_in (Some b) = paper.some b
-
--- of so many boxes, the first whose set has n
-unfoldable pub first_binder : List ℕ → ℕ → ℕ → paper.Option ℕ
-first_binder bound boxes n = first_below boxes (λ b. some_if (has (get_or bound b 0) n) b)
+-- of so many boxes, the first whose lines bind n
+unfoldable pub first_binder : List BoxPlace → ℕ → ℕ → Option ℕ
+first_binder each boxes n = first_below boxes (λ b. some_if (has (get_or each b nowhere).bound n) b)

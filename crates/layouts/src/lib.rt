@@ -1,33 +1,45 @@
 #![tactic(auto)]
 // Where the parts of a model stand, in an image whose blocks are right; and the box that binds a name.
-ghost use Rattle.std.specs.Prelude.{◌≡◌, ◌%◌, ◌≤◌, length};
+// Bounds of indices and counts stand in the clauses: a type for each bound would be taken apart at every use.
+ghost use Rattle.std.specs.Prelude.{◌≡◌, ◌≤◌};
 ghost use Rattle.std.proofs.Math.Option.{none};
-ghost use Rattle.definitions.specs.Words.{block_of};
 ghost use Rattle.definitions.specs.ReadModel.{blocks_fault};
-ghost use Rattle.layouts.specs.Layouts.{line_total, KindInserted, KindSetsOf, BoxLayoutOf};
+ghost use Rattle.layouts.specs.Layouts.{line_total, KindInserted, KindSetsOf, BoxPlaceOf};
 ghost use Rattle.layouts.specs.LayoutOf.{FrameOf, LayoutOf};
-ghost use Rattle.layouts.specs.Owners.{owner_in, first_binder};
+ghost use Rattle.sets.specs.Options.{option_in};
+ghost use Rattle.layouts.specs.Owners.{first_binder};
 
+use block_order::{Blocks, RightBlocks};
 pub use line_table::Kinds;
-use records::NameKind;
 use records::names::insert_if;
+use records::{Lines, NameKind};
 use sets::NameNo;
 
-// Where a model's parts stand. For box b: the block of its sites, how many sites and lines it has, and the names that its lines bind.
-// Then the listed names, and those of each kind.
+// Where a box stands: the block of its sites, how many sites and lines it has, and the names that its lines bind.
+#[derive(Clone, Copy)]
+pub struct BoxPlace {
+    pub at: usize,
+    pub sites: usize,
+    pub lines: usize,
+    pub bound: u64,
+}
+
+// Where a model's parts stand: its boxes, and its names by kind. The count of boxes stands beside their array, since memory is fixed.
 #[derive(Clone, Copy)]
 pub struct Layout {
     pub names: usize,
     pub boxes: usize,
-    pub at: [usize; 8],
-    pub sites: [usize; 8],
-    pub lines: [usize; 8],
-    pub bound: [u64; 8],
-    pub listed: u64,
-    pub free: u64,
-    pub restricted: u64,
-    pub received: u64,
-    pub exposed: u64,
+    pub each: [BoxPlace; 8],
+    pub kinds: Kinds,
+}
+
+// An image whose blocks are right, and where its parts stand: no model that is read, since 6 to 9 are still to be looked for.
+#[derive(Clone, Copy)]
+pub struct Laid<'a> {
+    pub image: &'a [u8],
+    pub layout: Layout,
+    pub ghost right: { blocks_fault image.now ≡ none },
+    pub ghost of: { LayoutOf image.now layout },
 }
 
 // Name n, of a kind, put in.
@@ -45,10 +57,9 @@ fn insert_kind(s: Kinds, n: NameNo, kind: u64) -> Kinds
 
 // The names of the head, by kind.
 #[tactic(auto, using(crate::proofs::LayoutLaws::layouts))]
-fn kind_sets(image: &[u8], names: usize) -> Kinds
-    requires there { 512 ≤ length image.now }
-    requires few { names ≤ 60 }
-    ensures { KindSetsOf (block_of image.now 0) names result }
+fn kind_sets(head: &[u8; 512], names: usize) -> Kinds
+    requires { names ≤ 60 }
+    ensures { KindSetsOf head.now names result }
 {
     let mut s = Kinds {
         listed: 0,
@@ -58,7 +69,7 @@ fn kind_sets(image: &[u8], names: usize) -> Kinds
         exposed: 0,
     };
     for n in 0..names {
-        let kind = blocks::inside::data_word(image, 0, 2 + n);
+        let kind = blocks::inside::data_word(head, 2 + n);
         s = insert_kind(s, NameNo(n as u8), kind);
     }
     s
@@ -66,100 +77,97 @@ fn kind_sets(image: &[u8], names: usize) -> Kinds
 
 // How many lines follow block k.
 #[tactic(auto, using(crate::proofs::LayoutLaws::layouts))]
-fn line_total(image: &[u8], k: usize) -> usize
-    requires whole { length image.now % 512 ≡ 0 }
+fn line_total(blocks: Blocks<'_>, k: usize) -> usize
     requires block { k ≤ 99 }
-    requires few { line_total image.now k ≤ 124 }
-    ensures { result ≡ line_total image.now k }
+    requires few { line_total blocks.image.now k ≤ 124 }
+    ensures { result ≡ line_total blocks.entry.image.now k }
 {
-    let n = block_order::line_blocks(image, k + 1);
-    31 * (n - 1) + block_order::count(image, k + n)
+    let n = block_order::line_blocks(blocks, k + 1);
+    31 * (n - 1) + block_order::count(blocks, k + n)
 }
 
-// A box: how many sites and lines it has, and the block after it.
-#[derive(Clone, Copy)]
-pub struct BoxLayout {
-    pub sites: usize,
-    pub lines: usize,
-    pub next: usize,
-}
+// No box.
+const NOWHERE: BoxPlace = BoxPlace {
+    at: 0,
+    sites: 0,
+    lines: 0,
+    bound: 0,
+};
 
-// The box whose sites are block k.
+// The box whose sites are block k, but for the names that its lines bind.
 #[tactic(auto, using(crate::proofs::LayoutLaws::layouts))]
-fn box_layout(image: &[u8], k: usize) -> BoxLayout
-    requires whole { length image.now % 512 ≡ 0 }
+fn box_place(blocks: Blocks<'_>, k: usize) -> BoxPlace
     requires block { k ≤ 99 }
-    requires few { line_total image.now k ≤ 124 }
-    ensures { BoxLayoutOf image.now k result }
+    requires few { line_total blocks.image.now k ≤ 124 }
+    ensures { BoxPlaceOf blocks.entry.image.now k result }
 {
-    BoxLayout {
-        sites: block_order::count(image, k),
-        lines: line_total(image, k),
-        next: k + 1 + block_order::line_blocks(image, k + 1),
+    BoxPlace {
+        at: k,
+        sites: block_order::count(blocks, k),
+        lines: line_total(blocks, k),
+        bound: 0,
     }
 }
 
 // All of the layout but the names that lines bind.
 #[tactic(auto, using(crate::proofs::LayoutLaws::layouts))]
-pub fn frame_of(image: &[u8]) -> Layout
-    requires whole { length image.now % 512 ≡ 0 }
-    requires blocks { blocks_fault image.now ≡ none }
-    ensures { FrameOf image.now result }
+pub fn frame_of(right: RightBlocks<'_>) -> Layout
+    ensures { FrameOf right.entry.blocks.image.now result }
 {
-    let names = blocks::inside::data_word(image, 0, 0) as usize;
-    let boxes = blocks::inside::data_word(image, 0, 1) as usize;
-    let kinds = kind_sets(image, names);
-    let mut at = [0usize; 8];
-    let mut sites = [0usize; 8];
-    let mut lines = [0usize; 8];
+    let blocks = right.blocks;
+    let head = blocks::inside::block(blocks.image, 0);
+    let names = blocks::inside::data_word(head, 0) as usize;
+    let boxes = blocks::inside::data_word(head, 1) as usize;
+    let kinds = kind_sets(head, names);
+    let mut each = [NOWHERE; 8];
     let mut k = 1;
     for b in 0..boxes {
-        let found = box_layout(image, k);
-        at[b] = k;
-        sites[b] = found.sites;
-        lines[b] = found.lines;
-        k = found.next;
+        each[b] = box_place(blocks, k);
+        k += 1 + block_order::line_blocks(blocks, k + 1);
     }
     Layout {
         names,
         boxes,
-        at,
-        sites,
-        lines,
-        bound: [0u64; 8],
-        listed: kinds.listed,
-        free: kinds.free,
-        restricted: kinds.restricted,
-        received: kinds.received,
-        exposed: kinds.exposed,
+        each,
+        kinds,
     }
 }
 
 // The frame, and the names that the lines of each box bind.
 #[tactic(auto, using(crate::proofs::BoundLaws::bounds))]
-pub fn layout_of(image: &[u8]) -> Layout
-    requires whole { length image.now % 512 ≡ 0 }
-    requires blocks { blocks_fault image.now ≡ none }
-    ensures { LayoutOf image.now result }
+pub fn layout_of<'a>(right: RightBlocks<'a>) -> Laid<'a>
+    ensures { result.image.now ≡ right.entry.blocks.image.now }
 {
-    let frame = frame_of(image);
-    let mut bound = [0u64; 8];
+    let image = right.blocks.image;
+    let frame = frame_of(right);
+    let mut each = frame.each;
     for b in 0..frame.boxes {
-        bound[b] = box_runs::bound_by(image, frame.at[b], frame.lines[b]);
+        let place = frame.each[b];
+        let lines = Lines {
+            image,
+            k: place.at,
+            n: place.lines,
+        };
+        each[b].bound = box_runs::bound_by(lines);
     }
-    Layout { bound, ..frame }
+    Laid {
+        image,
+        layout: Layout { each, ..frame },
+    }
 }
 
-// Of so many boxes, the first whose lines bind a name; bound: for each box, the names that its lines bind.
-#[tactic(auto, using(crate::proofs::OwnerLaws::owners))]
-pub fn owner_of(bound: &[u64; 8], boxes: usize, n: NameNo) -> Option<usize>
-    requires { boxes ≤ 8 }
-    ensures { owner_in result ≡ first_binder bound.now boxes n.0 }
-{
-    for b in 0..boxes {
-        if sets::contains(bound[b], n) {
-            return Some(b);
+impl Layout {
+    // The first box whose lines bind a name.
+    #[tactic(auto, using(crate::proofs::OwnerLaws::owners))]
+    pub fn owner_of(&self, n: NameNo) -> Option<usize>
+        requires { self.now.boxes ≤ 8 }
+        ensures { option_in result ≡ first_binder self.now.each self.now.boxes n.0 }
+    {
+        for b in 0..self.boxes {
+            if sets::contains(self.each[b].bound, n) {
+                return Some(b);
+            }
         }
+        None
     }
-    None
 }

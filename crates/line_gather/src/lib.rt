@@ -1,11 +1,12 @@
 #![tactic(auto)]
 // What the lines of a box name, gathered in one walk with no branch on the operation: the first names of lines by operation, what outputs send
 // by channel, and the inputs and exposes in a list.
+// Bounds of indices and counts stand in the clauses: a type for each bound would be taken apart at every use.
 ghost use Rattle.std.specs.Prelude.{◌≡◌, ◌<◌, ◌≤◌, length, replicate};
 ghost use Rattle.records.specs.Records.{line_in};
-ghost use Rattle.clauses.specs.Known.{LineOfNames};
 ghost use Rattle.line_gather.specs.Gathered.{LinesOfNames, NamePut, SentPut, ListPut, Gathers};
 
+use clauses::NamedLine;
 use records::inside::line;
 use records::{Line, Op};
 
@@ -20,12 +21,11 @@ fn put_name(ops: &mut [u64; 16], l: Line)
 
 // What an output sends, q, put into the set of its channel: no name, where the line is not an output.
 #[tactic(auto, using(crate::proofs::Puts::puts))]
-fn put_sent(sent: &mut [u64; 64], l: Line, q: u64)
-    requires { LineOfNames (line_in l) }
-    ensures { SentPut sent.old (line_in l) q sent.new }
+fn put_sent(sent: &mut [u64; 64], l: NamedLine, q: u64)
+    ensures { SentPut sent.old (line_in l.line) q sent.new }
 {
-    let p = usize::from(l.name1.0);
-    let sends = if l.op == Op::Output as u8 { q } else { 0 };
+    let p = usize::from(l.line.name1.0);
+    let sends = if l.line.op == Op::Output as u8 { q } else { 0 };
     sent[p] = sets::union(sent[p], sends);
 }
 
@@ -44,7 +44,8 @@ fn put_line(listed: &mut [u8; 128], c: usize, i: usize, l: Line) -> usize
     }
 }
 
-// The n lines after block k, into arrays of zeros; how many are in the list.
+// The list is lent and its count answered: fixed memory, and no large array by value.
+// The n lines after block k, into arrays of zeros; how many are in the list. Asks of the estimate only the blocks that it reads.
 #[tactic(auto, using(crate::proofs::Puts::gathering))]
 pub fn gather(
     model: &[u8],
@@ -64,10 +65,12 @@ pub fn gather(
 {
     let mut c = 0;
     for i in 0..n {
-        let l = line(model, k, i);
-        put_name(ops, l);
-        put_sent(sent, l, estimate::rho(estimate, l.name2));
-        c = put_line(listed, c, i, l);
+        let l = NamedLine {
+            line: line(model, k, i),
+        };
+        put_name(ops, l.line);
+        put_sent(sent, l, estimate::rho(estimate, l.line.name2));
+        c = put_line(listed, c, i, l.line);
     }
     c
 }

@@ -1,15 +1,32 @@
 #![tactic(auto)]
 // The tests of a line by tables: by operation, which digits, names and children a line may have, and what it uses and binds.
-ghost use Rattle.std.specs.Prelude.{◌≡◌, ◌/◌, ◌%◌, ◌^◌, ◌<◌};
+// Bounds of indices and counts stand in the clauses: a type for each bound would be taken apart at every use.
+ghost use Rattle.std.specs.Prelude.{◌≡◌, ◌+◌, ◌/◌, ◌%◌, ◌^◌, ◌<◌};
+ghost use Rattle.std.specs.Int.Bits.{bit_and, bit_or};
 ghost use Rattle.line_table.specs.Table.{op_table, row};
-ghost use Rattle.line_table.specs.LineWords.{wrong, bound, named};
+ghost use Rattle.line_table.specs.LineWords.{first, second, wrong, bound, named};
 ghost use Rattle.line_table.specs.Told.{Typed};
 
+pub use records::Kinds;
 use records::Op;
 use sets::NameNo;
 
-// By operation, 16 words each: the digits that are zero, the names that may not stand first and second, what is used (first and second),
-// what is bound (first and second), the children (first and second). Words that depend on the names are 0 here.
+// The tables by operation: the digits that are zero; the names that may not stand first and second; those that are used where they stand there,
+// and those that are bound; the marks of the first and the second child.
+#[derive(Clone, Copy)]
+pub enum Part {
+    Zero = 0,
+    DeniedFirst = 1,
+    DeniedSecond = 2,
+    UsedFirst = 3,
+    UsedSecond = 4,
+    BoundFirst = 5,
+    BoundSecond = 6,
+    ChildFirst = 7,
+    ChildSecond = 8,
+}
+
+// One table after another, 16 words each: nine fields for each of 16 operations are no shorter. Words that depend on the names are 0 here.
 const BY_OPERATION: [u64; 144] = [
     0xffff_ffff_ffc0_c0f0,
     0xff80_ff80_ffc0_c0f0,
@@ -157,34 +174,24 @@ const BY_OPERATION: [u64; 144] = [
     0,
 ];
 
-// The listed names, and those of each kind.
-#[derive(Clone, Copy)]
-pub struct Kinds {
-    pub listed: u64,
-    pub free: u64,
-    pub restricted: u64,
-    pub received: u64,
-    pub exposed: u64,
-}
-
 // The words by operation, with those that depend on the names.
 pub fn table(kinds: Kinds) -> [u64; 144]
     ensures { result ≡ op_table kinds.listed kinds.restricted kinds.received kinds.exposed kinds.free }
 {
     let mut t = BY_OPERATION;
-    t[19] = !kinds.restricted;
-    t[20] = !kinds.listed;
-    t[21] = !kinds.listed;
-    t[22] = !kinds.exposed;
-    t[23] = !kinds.listed;
-    t[24] = !kinds.listed;
-    t[36] = !kinds.listed;
-    t[37] = !kinds.received;
-    t[52] = !kinds.free;
-    t[53] = !kinds.free;
-    t[55] = !kinds.free;
-    t[56] = !kinds.free;
-    t[68] = !kinds.free;
+    t[16 * Part::DeniedFirst as usize + Op::Restriction as usize] = !kinds.restricted;
+    t[16 * Part::DeniedFirst as usize + Op::Output as usize] = !kinds.listed;
+    t[16 * Part::DeniedFirst as usize + Op::Input as usize] = !kinds.listed;
+    t[16 * Part::DeniedFirst as usize + Op::Expose as usize] = !kinds.exposed;
+    t[16 * Part::DeniedFirst as usize + Op::Hide as usize] = !kinds.listed;
+    t[16 * Part::DeniedFirst as usize + Op::Unhide as usize] = !kinds.listed;
+    t[16 * Part::DeniedSecond as usize + Op::Output as usize] = !kinds.listed;
+    t[16 * Part::DeniedSecond as usize + Op::Input as usize] = !kinds.received;
+    t[16 * Part::UsedFirst as usize + Op::Output as usize] = !kinds.free;
+    t[16 * Part::UsedFirst as usize + Op::Input as usize] = !kinds.free;
+    t[16 * Part::UsedFirst as usize + Op::Hide as usize] = !kinds.free;
+    t[16 * Part::UsedFirst as usize + Op::Unhide as usize] = !kinds.free;
+    t[16 * Part::UsedSecond as usize + Op::Output as usize] = !kinds.free;
     t
 }
 
@@ -209,23 +216,34 @@ pub fn one(n: u64) -> u64
 pub fn wrong_digits(t: &[u64; 144], w: u64) -> u64
     ensures { result ≡ wrong t.now w }
 {
-    (w & at(t, 0, w)) | (one(w / 0x100) & at(t, 1, w)) | (one(w / 0x1_0000) & at(t, 2, w))
+    (w & at(t, Part::Zero as usize, w))
+        | (one(w / 0x100) & at(t, Part::DeniedFirst as usize, w))
+        | (one(w / 0x1_0000) & at(t, Part::DeniedSecond as usize, w))
+}
+
+// The names of a line that tables k and k + 1 have, of its first and of its second name.
+#[tactic(auto, unfolding(crate::specs::LineWords::first, crate::specs::LineWords::second))]
+fn names(t: &[u64; 144], k: usize, w: u64) -> u64
+    requires { k < 8 }
+    ensures { result ≡ bit_or (bit_and (first w) (row t.now k w)) (bit_and (second w) (row t.now (k + 1) w)) }
+{
+    (one(w / 0x100) & at(t, k, w)) | (one(w / 0x1_0000) & at(t, k + 1, w))
 }
 
 // The names that a line binds.
-#[tactic(auto, unfolding(crate::specs::LineWords::bound, crate::specs::LineWords::first, crate::specs::LineWords::second))]
+#[tactic(auto, unfolding(crate::specs::LineWords::bound))]
 pub fn bound_names(t: &[u64; 144], w: u64) -> u64
     ensures { result ≡ bound t.now w }
 {
-    (one(w / 0x100) & at(t, 5, w)) | (one(w / 0x1_0000) & at(t, 6, w))
+    names(t, Part::BoundFirst as usize, w)
 }
 
 // The names that a line uses and that are not free, but for those of its type.
-#[tactic(auto, unfolding(crate::specs::LineWords::named, crate::specs::LineWords::first, crate::specs::LineWords::second))]
+#[tactic(auto, unfolding(crate::specs::LineWords::named))]
 pub fn used_names(t: &[u64; 144], w: u64) -> u64
     ensures { result ≡ named t.now w }
 {
-    (one(w / 0x100) & at(t, 3, w)) | (one(w / 0x1_0000) & at(t, 4, w))
+    names(t, Part::UsedFirst as usize, w)
 }
 
 // Wrong digits of a type: only an expose has one, and its names are free or bound above.

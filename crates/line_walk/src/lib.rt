@@ -1,12 +1,15 @@
 #![tactic(auto)]
 // One walk over a box's lines that may only say "all right": a line by itself, in its tree, and where its names reach. Wrong digits are joined.
+// Bounds of indices and counts stand in the clauses: a type for each bound would be taken apart at every use.
 ghost use Rattle.std.specs.Prelude.{◌≡◌, ◌+◌, ◌*◌, ◌/◌, ◌%◌, ◌<◌, ◌≤◌, length, get_or, set, replicate};
-ghost use Rattle.records.specs.Places.{LinesThere};
 ghost use Rattle.line_table.specs.Table.{op_table};
 ghost use Rattle.line_walk.specs.Told.{OwnTold, ChildrenTold, Stepped, Fresh, Next, LinesTold};
 
-use line_table::{Kinds, at, bound_names, typed, used_names, wrong_digits};
+use line_table::{Kinds, Part, at, bound_names, typed, used_names, wrong_digits};
+use records::Lines;
 use std::mem::replace;
+
+// The words of a line stand in registers: a struct of them would be taken apart at once.
 
 // Wrong digits of a line by itself, of its type, of where its names reach, of what is bound twice, and of its mark; v: what stands at its place.
 fn own_wrong(t: &[u64; 144], all: u64, rest: u64, w: u64, names: u64, v: u64, seen: u64) -> u64
@@ -26,7 +29,7 @@ fn children_wrong(t: &[u64; 144], w: u64, here: u64, up: &mut [u64; 128]) -> u64
 {
     let first = replace(&mut up[(w / 0x1_0000_0000 % 128) as usize], here);
     let second = replace(&mut up[(w / 0x1_0000_0000_0000 % 128) as usize], here);
-    (first & at(t, 7, w)) | (second & at(t, 8, w))
+    (first & at(t, Part::ChildFirst as usize, w)) | (second & at(t, Part::ChildSecond as usize, w))
 }
 
 // Line i, of the words w and names.
@@ -76,14 +79,16 @@ fn next(p: Place) -> Place
     }
 }
 
-// What a walk over a box's records finds: wrong digits, and the names that the boxes up to its end bind, or have as subjects.
+// What a walk over a box's records finds: wrong digits, and the names that the boxes up to its end bind, or have as subjects. No Option: wrong
+// digits are joined over all boxes, with no branch.
 #[derive(Clone, Copy)]
 pub struct Walked {
     pub bad: u64,
     pub names: u64,
 }
 
-// The places of lines 1 to n lose their marks.
+// The places of the n lines but the first lose their marks. A mark, the top digit, says that a place is a child already, the first line's or no
+// line's: names are below 60, so the digit is free.
 fn unmark(up: &mut [u64; 128], n: usize)
     requires marked { up.old ≡ replicate 128 0x8000000000000000 }
     requires few { n ≤ 124 }
@@ -93,32 +98,24 @@ fn unmark(up: &mut [u64; 128], n: usize)
     up[0] = 0x8000_0000_0000_0000;
 }
 
-// The n lines after block k, of a box before which others bind a set. Where no wrong digit is found every line fits.
+// The lines of a box before which others bind a set. Where no wrong digit is found every line fits.
 #[tactic(auto, using(crate::proofs::Walks::walks))]
-pub fn walk_lines(
-    image: &[u8],
-    t: &[u64; 144],
-    kinds: Kinds,
-    k: usize,
-    n: usize,
-    start: u64,
-) -> Walked
-    requires there { LinesThere image.now k n }
-    requires block { k < 100 }
+pub fn walk_lines(lines: Lines<'_>, t: &[u64; 144], kinds: Kinds, start: u64) -> Walked
+    requires block { lines.k < 100 }
     requires table { t.now ≡ op_table kinds.listed kinds.restricted kinds.received kinds.exposed kinds.free }
-    ensures { LinesTold image.now k n kinds.listed kinds.restricted kinds.received kinds.exposed kinds.free start result.bad result.names }
+    ensures { LinesTold lines.entry.image.now lines.entry.k lines.entry.n kinds.listed kinds.restricted kinds.received kinds.exposed kinds.free start result.bad result.names }
 {
     let mut up = [0x8000_0000_0000_0000u64; 128];
-    unmark(&mut up, n);
+    unmark(&mut up, lines.n);
     let mut bad: u64 = 0;
     let mut seen = start;
     let mut p = Place {
-        at: 512 * (k + 1) + 8,
+        at: 512 * (lines.k + 1) + 8,
         left: 31,
     };
-    for i in 0..n {
-        let w = words::word(image, p.at);
-        let names = words::word(image, p.at + 8);
+    for i in 0..lines.n {
+        let w = words::word(lines.image, p.at);
+        let names = words::word(lines.image, p.at + 8);
         bad |= step(t, kinds.listed, !kinds.free, w, names, i, seen, &mut up);
         seen |= bound_names(t, w);
         p = next(p);

@@ -1,10 +1,10 @@
 -- Laws of the lookups. Assumes nothing.
-use mathlib.Core.Path.{◌≡◌, refl, ap, sym, ◌∙◌}
+use mathlib.Core.Path.{◌≡◌, ap, sym, ◌∙◌}
 use mathlib.Core.Logic.{◌≢◌}
 use mathlib.Core.Bool.{Bool, true, false, ◌&&◌, ◌||◌}
 use mathlib.Core.List.{List}
 use mathlib.Core.Option.{Option, none, some}
-use Prim.Native.Nat.{ℕ, ◌+◌, ◌*◌, ◌/◌, ◌%◌, ◌^◌, ◌≤◌, ◌<◌}
+use Prim.Native.Nat.{ℕ, ◌+◌, ◌≤◌, ◌<◌}
 use native.Mathlib.Omega.{arith}
 use native.Mathlib.Decide.{dec_lt}
 use borrow.Author.Rules.{rules}
@@ -17,13 +17,8 @@ use Rattle.definitions.specs.Moves.{site_with, types_share, value_in}
 use Rattle.definitions.proofs.Bounded.{and_is, and_iff, is_iff, isnt_iff, below_iff, or_is, true_of, of_true, false_of, first_stop, each_none, none_each, none_fault}
 use Rattle.definitions.proofs.Loops.{Missing, missing-start, missing-turn, missing_stop, missing_end, any_start, any_turn}
 use Rattle.definitions.proofs.Image.{model_kinds}
-use Rattle.lookups.specs.Ready.{byte_of}
 use Rattle.lookups.specs.Found.{site_is, type_is, type_has, shared_at}
-use Rattle.lookups.proofs.Ready.{read_head, read_names, ready_box, ready_thread, line-there, line-found}
-
-pub byte_is : (places b : ℕ) → places / 2 ^ (8 * b) % 256 ≡ byte_of places b
-unfolding byte_of
-byte_is places b = refl
+use Rattle.lookups.proofs.Ready.{read_head, ready_box, ready_thread, line-there, line-found}
 
 -- a name's value, by its kind
 module _ (image y : List ℕ) (n k : ℕ) (e : k ≡ kind_of_name (kinds_of image) n) where
@@ -110,6 +105,15 @@ pub share_all : (x y : List ℕ) (b : Bool) → b ≡ any_below 8 (shared_at x y
 unfolding types_share shared_at type_has type_is
 share_all x y b e = e
 
-pub ruleset lookups = (rules, byte_is, ready_box, ready_thread, line-there, line-found, read_head, read_names, value_free, value_bound)
+pub share_some : (x y : List ℕ) (j : ℕ) (b : Bool) → b ≡ shared_at x y j → b ≡ true → j < 8 → true ≡ types_share x y
+share_some x y j b e t l = share_all x y true (missing_stop 8 (shared_at x y) j b l e t)
 
-pub ruleset finds = (rules, site_tested, site_found, site_none, type_turn, type_end, shared_none, shared_by, missing-start, missing-turn, missing_stop, missing_end, share_all)
+pub ruleset lines = (rules, ready_box, ready_thread, line-there, line-found)
+
+pub ruleset values = (rules, read_head, value_free, value_bound)
+
+pub ruleset finds = (rules, site_tested, site_found, site_none, missing-start, missing-turn)
+
+pub ruleset types = (rules, any_start, type_turn, type_end, shared_none, shared_by)
+
+pub ruleset shares = (rules, missing-start, missing-turn, missing_end, share_some, share_all)

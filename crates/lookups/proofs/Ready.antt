@@ -1,13 +1,16 @@
 -- What is known of a box record that is in order, in a model that is read. Assumes nothing.
 use mathlib.Core.Path.{◌≡◌, ap, sym, ◌∙◌}
+use mathlib.Core.Logic.{∥∥₁_elim}
+use native.Mathlib.Bridge.{le_prop}
+use native.Mathlib.Nat.{ℕ_set}
 use mathlib.Core.List.{List}
 use mathlib.Core.Option.{none}
 use Prim.Native.Nat.{ℕ, ◌+◌, ◌*◌, ◌/◌, ◌%◌, ◌≤◌, ◌<◌}
 use native.Mathlib.Omega.{arith}
 use native.Mathlib.Decide.{ℕ_discrete}
-use lib.ListN.{length}
+use lib.ListN.{length, get_or}
 use Rattle.definitions.specs.Words.{block_of}
-use Rattle.definitions.specs.Model.{Line, Box, Model, box_at, line_at, box_count}
+use Rattle.definitions.specs.Model.{Line, Box, Model, box_at, line_at, line_count, box_count}
 use Rattle.definitions.specs.Image.{line_record, name_count, boxes_of, sites_block, lines_of, box_of_image, model_of}
 use Rattle.definitions.specs.ReadModel.{read_model}
 use Rattle.definitions.specs.Record.{threads, sites, thread, line}
@@ -15,8 +18,10 @@ use Rattle.definitions.specs.Moves.{thread_line}
 use Rattle.definitions.proofs.Image.{model_count, model_box, model_kinds, model_names, box_lines, box_line}
 use Rattle.definitions.proofs.Valid.{Valid, ValidLine}
 use Rattle.definitions.proofs.ReadModel.{Blocks, read_iff, valid_image, lines_there}
-use Rattle.definitions.proofs.StateRules.{ThreadFits, thread_iff, RecordFits, record_iff}
-use Rattle.lookups.specs.Ready.{byte_of, BoxReady}
+use Rattle.definitions.proofs.StateRules.{thread_iff, RecordFits, record_iff}
+use Rattle.layouts.specs.LayoutOf.{nowhere}
+use Rattle.model.specs.declared.ReadModel.{ReadModel}
+use Rattle.lookups.specs.Ready.{BoxReady}
 
 -- names of a model that is read
 pub read_blocks : (image : List ℕ) → read_model image ≡ none → Blocks image
@@ -47,52 +52,55 @@ first_of m l v h = pick (ℕ_discrete l.op 3) (ℕ_discrete l.op 4) (ℕ_discret
     pick (no a) (no b) (no c) (no d) (yes e) = v.hide_listed e
     pick (no a) (no b) (no c) (no d) (no f) = v.unhide_listed (omega (arith, v.known))
 
-module _ {image : List ℕ} {places b : ℕ} {r : List ℕ} (k : BoxReady image places b r) where
-  pub ready_record : RecordFits (model_of image) k.last (box_at (model_of image) b) r
-  ready_record = (record_iff (model_of image) k.last (box_at (model_of image) b) r).0 k.fits
+module _ {m : ReadModel} {b : ℕ} {r : List ℕ} (k : BoxReady m b r) where
+  -- what the record says under its last stamps, for a fact that does not name them
+  pub open_ready : {P : Type 0} → IsProp P → ((last : ℕ → ℕ) → RecordFits (model_of m.image.now) last (box_at (model_of m.image.now) b) r → P) → P
+  open_ready q f = ∥∥₁_elim k.fits q (λ x. f x.last ((record_iff (model_of m.image.now) x.last (box_at (model_of m.image.now) b) r).0 x.fits))
 
-  pub ready_valid : Valid (model_of image)
-  ready_valid = valid_image image k.read
+  pub ready_valid : Valid (model_of m.image.now)
+  ready_valid = valid_image m.image.now m.read
 
-  pub ready_inside : b < box_count (model_of image)
-  ready_inside = rw (model_count image) k.inside
+  pub ready_inside : b < box_count (model_of m.image.now)
+  ready_inside = rw (model_count m.image.now) k.inside
 
   pub ready_box : b < 8
-  ready_box = read_boxes image b k.read k.inside
+  ready_box = read_boxes m.image.now b m.read k.inside
 
   pub ready_length : length r ≡ 1139
-  ready_length = ready_record.size
+  ready_length = open_ready (ℕ_set _ _) (λ last f. f.size)
 
   pub ready_sites : sites r ≤ 16
-  ready_sites = ready_record.sites_fit.most
+  ready_sites = open_ready le_prop (λ last f. f.sites_fit.most)
 
   pub ready_threads : threads r ≤ 16
-  ready_threads = ready_record.threads_fit.most
+  ready_threads = open_ready le_prop (λ last f. f.threads_fit.most)
 
   pub ready_thread : (t : ℕ) → t < threads r → t < 16
   ready_thread t h = omega (arith, ready_threads)
 
-  same_box : box_at (model_of image) b ≡ box_of_image image b
-  same_box = model_box image b k.inside
+  same_box : box_at (model_of m.image.now) b ≡ box_of_image m.image.now b
+  same_box = model_box m.image.now b k.inside
 
   module _ (t : ℕ) (h : t < threads r) where
-    pub ready_stands : ThreadFits (model_of image) k.last (box_at (model_of image) b) (thread r t)
-    ready_stands = (thread_iff (model_of image) k.last (box_at (model_of image) b) (thread r t)).0 (ready_record.threads_fit.live t h)
+    pub ready_stands : line (thread r t) < line_count (box_at (model_of m.image.now) b)
+    ready_stands =
+        open_ready le_prop
+        (λ last f. ((thread_iff (model_of m.image.now) last (box_at (model_of m.image.now) b) (thread r t)).0 (f.threads_fit.live t h)).stands)
 
-    below : line (thread r t) < lines_of image b
-    below = rw (same_box, box_lines image b) at ready_stands.stands
+    below : line (thread r t) < lines_of m.image.now b
+    below = rw (same_box, box_lines m.image.now b) at ready_stands
 
-    module _ (p i : ℕ) (e : p ≡ byte_of places b) (d : i ≡ line (thread r t)) where
-      at : p ≡ sites_block image b
-      at = e ∙ k.placed.at b k.inside
+    module _ (p i : ℕ) (e : p ≡ (get_or m.layout.each b nowhere).at) (d : i ≡ line (thread r t)) where
+      at : p ≡ sites_block m.image.now b
+      at = e ∙ m.of.frame.at b k.inside
 
-      pub line-there : 512 * (p + 1 + i / 31 + 1) ≤ length image
-      line-there = rw (at, d) (lines_there image (read_blocks image k.read) b k.inside (line (thread r t)) below)
+      pub line-there : 512 * (p + 1 + i / 31 + 1) ≤ length m.image.now
+      line-there = rw (at, d) (lines_there m.image.now (read_blocks m.image.now m.read) b k.inside (line (thread r t)) below)
 
-      pub line-found : (l : Line) → l ≡ line_record (block_of image (p + 1 + i / 31)) (i % 31)
-          → l ≡ thread_line (model_of image).kinds (box_at (model_of image) b) r t
+      pub line-found : (l : Line) → l ≡ line_record (block_of m.image.now (p + 1 + i / 31)) (i % 31)
+          → l ≡ thread_line (model_of m.image.now).kinds (box_at (model_of m.image.now) b) r t
       unfolding thread_line
       line-found l q =
-          q ∙ ap (λ (j : ℕ). line_record (block_of image (j + 1 + i / 31)) (i % 31)) at
-          ∙ ap (λ (j : ℕ). line_record (block_of image (sites_block image b + 1 + j / 31)) (j % 31)) d
-          ∙ sym (ap (λ (x : Box). line_at x (line (thread r t))) same_box ∙ box_line image b (line (thread r t)) below)
+          q ∙ ap (λ (j : ℕ). line_record (block_of m.image.now (j + 1 + i / 31)) (i % 31)) at
+          ∙ ap (λ (j : ℕ). line_record (block_of m.image.now (sites_block m.image.now b + 1 + j / 31)) (j % 31)) d
+          ∙ sym (ap (λ (x : Box). line_at x (line (thread r t))) same_box ∙ box_line m.image.now b (line (thread r t)) below)

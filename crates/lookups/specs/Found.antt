@@ -1,15 +1,8 @@
 -- Sites and their types, as they are looked for. Assumes nothing.
-use Rattle.std.specs.Prelude as code
-use Rattle.std.specs.Prelude.{Bool, List, ℕ, Some, None}
-use Rattle.std.proofs.Math.Option.{Option, none, some}
+use Rattle.std.specs.Prelude.{Bool, List, ℕ}
 use Rattle.definitions.specs.Bounded.{◌and◌, ◌is◌, ◌isnt◌, any_below}
 use Rattle.definitions.specs.Limits.{type_limit}
 use Rattle.definitions.specs.Record.{site, subject, flag, type_word}
-
--- the place of a site, as the definitions have it
-abbrev pub place_in : code.Option ℕ → Option ℕ
-place_in None = none
-place_in (Some i) = some i
 
 -- site i has v as its subject, and is shown (0) or hidden (1)
 unfoldable pub site_is : List ℕ → ℕ → ℕ → ℕ → Bool

@@ -1,43 +1,55 @@
 #![tactic(auto)]
 // What a thread of a box stands at, and what its names stand for; the site with a held name; types that share one. The image and the
 // record are read where they stand.
+// Bounds of indices and counts stand in the clauses: a type for each bound would be taken apart at every use.
 ghost use Rattle.std.specs.Prelude.{◌≡◌, ◌<◌, ◌≤◌};
 ghost use Rattle.std.proofs.Math.Option.{none};
-ghost use Rattle.definitions.specs.Limits.{box_limit, slot_limit, type_limit};
-ghost use Rattle.definitions.specs.Model.{box_at};
+ghost use Rattle.definitions.specs.Limits.{slot_limit, type_limit};
 ghost use Rattle.definitions.specs.Image.{name_count, model_of};
 ghost use Rattle.definitions.specs.ReadModel.{read_model};
 ghost use Rattle.definitions.specs.Record as words;
 ghost use Rattle.definitions.specs.Moves as moves;
 ghost use Rattle.records.specs.Records.{line_in};
-ghost use Rattle.lookups.specs.Ready.{byte_of, BoxReady};
-ghost use Rattle.lookups.specs.Found.{place_in, site_is, type_has, shared_at};
+ghost use Rattle.sets.specs.Options.{option_in};
+ghost use Rattle.lookups.specs.Ready.{kinds_in, box_in, BoxReady};
+ghost use Rattle.lookups.specs.Found.{site_is, type_has, shared_at};
 
+use model::ReadModel;
 use records::{Line, NameKind};
 use sets::NameNo;
 use state::Held;
 
-// The block of box b's sites: byte b.
-#[tactic(auto, using(crate::proofs::Lookups::lookups))]
-pub fn place(places: u64, b: usize) -> usize
-    requires { b < box_limit }
-    ensures { result ≡ byte_of places b }
-{
-    ((places >> (8 * b)) % 256) as usize
-}
-
-// The line at which thread t of box b stands.
-#[tactic(auto, using(crate::proofs::Lookups::lookups))]
-pub fn thread_line(model: &[u8], places: u64, b: usize, r: &[u32; 1139], t: usize) -> Line
-    requires ready { BoxReady model.now places b r.now }
+// The line at which thread t of box b stands. A move that writes the record reads it before, so it has no ReadyBox.
+#[tactic(auto, using(crate::proofs::Lookups::lines))]
+pub fn thread_line(model: &ReadModel<'_>, b: usize, r: &[u32; 1139], t: usize) -> Line
+    requires ready { BoxReady model.now b r.now }
     requires live { t < words.threads r.now }
-    ensures { line_in result ≡ moves.thread_line (model_of model.now).kinds (box_at (model_of model.now) b) r.now t }
+    ensures { line_in result ≡ moves.thread_line (kinds_in model.now) (box_in model.now b) r.now t }
 {
-    records::inside::line(model, place(places, b), state::line(r, t))
+    records::inside::line(model.image, model.layout.each[b].at, state::line(r, t))
 }
 
-// What name n stands for in thread t: a free name holds itself, any other is bound.
-#[tactic(auto, using(crate::proofs::Lookups::lookups))]
+// A box of a model with its record, which is in order: what the moves inside it are asked of.
+#[derive(Clone, Copy)]
+pub struct ReadyBox<'a> {
+    pub model: &'a ReadModel<'a>,
+    pub b: usize,
+    pub r: &'a [u32; 1139],
+    pub ghost ready: { BoxReady model.now b r.now },
+}
+
+impl<'a> ReadyBox<'a> {
+    // The line at which thread t stands.
+    pub fn thread_line(&self, t: usize) -> Line
+        requires live { t < words.threads self.now.r.now }
+        ensures { line_in result ≡ moves.thread_line (kinds_in self.now.model.now) (box_in self.now.model.now self.now.b) self.now.r.now t }
+    {
+        thread_line(self.model, self.b, self.r, t)
+    }
+}
+
+// What name n stands for in thread t: a free name holds itself, any other is bound. Asks of the model only that it is read.
+#[tactic(auto, using(crate::proofs::Lookups::values))]
 pub fn value(model: &[u8], r: &[u32; 1139], t: usize, n: NameNo) -> Held
     requires read { read_model model.now ≡ none }
     requires slot { t < slot_limit }
@@ -64,7 +76,7 @@ fn site_is(r: &[u32; 1139], i: usize, v: Held, f: u32) -> bool
 #[tactic(auto, using(crate::proofs::Lookups::finds))]
 pub fn site_with(r: &[u32; 1139], v: Held, f: u32) -> Option<usize>
     requires { words.sites r.now ≤ slot_limit }
-    ensures { place_in result ≡ moves.site_with r.now v.0 f }
+    ensures { option_in result ≡ moves.site_with r.now v.0 f }
 {
     for i in 0..state::sites(r) {
         if site_is(r, i, v, f) {
@@ -75,7 +87,7 @@ pub fn site_with(r: &[u32; 1139], v: Held, f: u32) -> Option<usize>
 }
 
 // The type of site i has v: all its words are looked at, with no branch.
-#[tactic(auto, using(crate::proofs::Lookups::finds))]
+#[tactic(auto, using(crate::proofs::Lookups::types))]
 fn type_has(r: &[u32; 1139], i: usize, v: Held) -> bool
     requires { i < slot_limit }
     ensures { result ≡ type_has (words.site r.now i) v.0 }
@@ -88,7 +100,7 @@ fn type_has(r: &[u32; 1139], i: usize, v: Held) -> bool
 }
 
 // Word j of the type of site i is a held name, which the type of site k of another record has.
-#[tactic(auto, using(crate::proofs::Lookups::finds))]
+#[tactic(auto, using(crate::proofs::Lookups::types))]
 fn shared_at(r: &[u32; 1139], i: usize, s: &[u32; 1139], k: usize, j: usize) -> bool
     requires first { i < slot_limit }
     requires second { k < slot_limit }
@@ -103,7 +115,7 @@ fn shared_at(r: &[u32; 1139], i: usize, s: &[u32; 1139], k: usize, j: usize) -> 
 }
 
 // The types of site i and of site k of another record share a held name.
-#[tactic(auto, using(crate::proofs::Lookups::finds))]
+#[tactic(auto, using(crate::proofs::Lookups::shares))]
 pub fn types_share(r: &[u32; 1139], i: usize, s: &[u32; 1139], k: usize) -> bool
     requires first { i < slot_limit }
     requires second { k < slot_limit }

@@ -1,4 +1,4 @@
 pub mod Edited
+pub mod Steps
 pub mod Exposes
 pub mod Lefts
-pub mod ByKind

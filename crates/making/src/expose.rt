@@ -1,4 +1,5 @@
 // The site of an expose, written behind the others.
+// The record is lent for writing, so what holds of its names before is a clause.
 ghost use Rattle.std.specs.Prelude.{◌≡◌, ◌∷◌};
 ghost use Rattle.definitions.specs.Slots.{put};
 ghost use Rattle.definitions.specs.Image.{model_of};

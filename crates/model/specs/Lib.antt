@@ -1,2 +1,1 @@
 pub mod LayoutOf
-pub mod Reads

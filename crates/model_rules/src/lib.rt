@@ -3,84 +3,86 @@
 ghost use Rattle.std.specs.Prelude.{◌≡◌};
 ghost use Rattle.std.proofs.Math.Option.{none};
 ghost use Rattle.definitions.specs.Image.{model_of};
-ghost use Rattle.definitions.specs.ReadModel.{blocks_fault, model_fault};
+ghost use Rattle.definitions.specs.ReadModel.{model_fault};
 ghost use Rattle.refusals.specs.Answers.{answer_in};
 ghost use Rattle.model_rules.specs.Passes.{sites_misfit, lines_misfit, trees_misfit, reach_misfit};
-ghost use Rattle.layouts.specs.LayoutOf.{LayoutOf};
 
-use layouts::Layout;
+use layouts::Laid;
+use records::Lines;
 use refusals::Refusal;
 
-fn sites_pass(image: &[u8], l: Layout) -> Result<(), Refusal>
-    requires right { blocks_fault image.now ≡ none }
-    requires layout { LayoutOf image.now l }
-    ensures { answer_in result ≡ sites_misfit (model_of image.now) }
+fn sites_pass(m: &Laid<'_>) -> Result<(), Refusal>
+    ensures { answer_in result ≡ sites_misfit (model_of m.now.image.now) }
 {
+    let free = m.layout.kinds.free;
     let mut used = 0;
-    for b in 0..l.boxes {
-        let k = l.at[b];
-        let n = l.sites[b];
-        box_runs::box_sites(image, b, k, n, l.free, used)?;
-        used = sets::union(used, box_runs::subjects(image, k, n));
+    for b in 0..m.layout.boxes {
+        let place = m.layout.each[b];
+        box_runs::box_sites(m.image, b, place.at, place.sites, free, used)?;
+        used = sets::union(used, box_runs::subjects(m.image, place.at, place.sites));
     }
     Ok(())
 }
 
-fn lines_pass(image: &[u8], l: Layout) -> Result<(), Refusal>
-    requires right { blocks_fault image.now ≡ none }
-    requires layout { LayoutOf image.now l }
-    ensures { answer_in result ≡ lines_misfit (model_of image.now) }
+// 7 and 8 walk the boxes alike: a closure for the call would need a clause for what 7 asks of the kinds.
+fn lines_pass(m: &Laid<'_>) -> Result<(), Refusal>
+    ensures { answer_in result ≡ lines_misfit (model_of m.now.image.now) }
 {
-    for b in 0..l.boxes {
-        box_runs::box_lines(
-            image,
-            b,
-            l.at[b],
-            l.lines[b],
-            l.listed,
-            l.restricted,
-            l.received,
-            l.exposed,
-        )?;
+    let kinds = m.layout.kinds;
+    for b in 0..m.layout.boxes {
+        let place = m.layout.each[b];
+        let lines = Lines {
+            image: m.image,
+            k: place.at,
+            n: place.lines,
+        };
+        box_runs::box_lines(lines, b, kinds)?;
     }
     Ok(())
 }
 
-fn trees_pass(image: &[u8], l: Layout) -> Result<(), Refusal>
-    requires right { blocks_fault image.now ≡ none }
-    requires layout { LayoutOf image.now l }
-    ensures { answer_in result ≡ trees_misfit (model_of image.now) }
+fn trees_pass(m: &Laid<'_>) -> Result<(), Refusal>
+    ensures { answer_in result ≡ trees_misfit (model_of m.now.image.now) }
 {
-    for b in 0..l.boxes {
-        box_runs::box_tree(image, b, l.at[b], l.lines[b])?;
+    for b in 0..m.layout.boxes {
+        let place = m.layout.each[b];
+        let lines = Lines {
+            image: m.image,
+            k: place.at,
+            n: place.lines,
+        };
+        box_runs::box_tree(lines, b)?;
     }
     Ok(())
 }
 
-fn reach_pass(image: &[u8], l: Layout) -> Result<(), Refusal>
-    requires right { blocks_fault image.now ≡ none }
-    requires layout { LayoutOf image.now l }
-    requires trees { trees_misfit (model_of image.now) ≡ none }
-    ensures { answer_in result ≡ reach_misfit (model_of image.now) }
+fn reach_pass(m: &Laid<'_>) -> Result<(), Refusal>
+    requires trees { trees_misfit (model_of m.now.image.now) ≡ none }
+    ensures { answer_in result ≡ reach_misfit (model_of m.now.image.now) }
 {
-    let free_or_unlisted = sets::union(l.free, records::names::complement(l.listed));
+    let kinds = m.layout.kinds;
+    let free_or_unlisted = sets::union(kinds.free, records::names::complement(kinds.listed));
     let mut bound = 0;
-    for b in 0..l.boxes {
-        box_reach::box_reach(image, b, l.at[b], l.lines[b], free_or_unlisted, bound)?;
-        bound = sets::union(bound, l.bound[b]);
+    for b in 0..m.layout.boxes {
+        let place = m.layout.each[b];
+        let lines = Lines {
+            image: m.image,
+            k: place.at,
+            n: place.lines,
+        };
+        box_reach::box_reach(lines, b, free_or_unlisted, bound)?;
+        bound = sets::union(bound, place.bound);
     }
     Ok(())
 }
 
 // 6 to 9, in this order.
 #[tactic(auto, using(crate::proofs::PassLaws::parts))]
-pub fn model_fault(image: &[u8], l: Layout) -> Result<(), Refusal>
-    requires right { blocks_fault image.now ≡ none }
-    requires layout { LayoutOf image.now l }
-    ensures { answer_in result ≡ model_fault (model_of image.now) }
+pub fn model_fault(m: &Laid<'_>) -> Result<(), Refusal>
+    ensures { answer_in result ≡ model_fault (model_of m.now.image.now) }
 {
-    sites_pass(image, l)?;
-    lines_pass(image, l)?;
-    trees_pass(image, l)?;
-    reach_pass(image, l)
+    sites_pass(m)?;
+    lines_pass(m)?;
+    trees_pass(m)?;
+    reach_pass(m)
 }

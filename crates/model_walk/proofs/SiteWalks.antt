@@ -112,12 +112,13 @@ module _ (image : List ℕ) (k n free start : ℕ) where
   sites-start = record { told = λ e b g. site-start image b n start g.before }
 
   pub sites-turn : (i bad used : ℕ) → SiteWalk image k n free start i bad used → i < n
-      → (w type x r : ℕ) → w ≡ data_word (block_of image k) (2 * i) → type ≡ data_word (block_of image k) (2 * i + 1) → x ≡ 2 ^ (w % 64) → SiteTold free used w type r
+      → (block : List ℕ) → block ≡ block_of image k → (w type x r : ℕ) → w ≡ data_word block (2 * i) → type ≡ data_word block (2 * i + 1) → x ≡ 2 ^ (w % 64)
+      → SiteTold free used w type r
       → SiteWalk image k n free start (i + 1) (bit_or bad r) (bit_or used x)
-  sites-turn i bad used p l w type x r ew et ex s = record {
+  sites-turn i bad used p l block q w type x r ew et ex s = record {
     told = λ e b g.
         let clean = empty_or_right bad r e in
-        site-turn image b k n i (site_word w type) free used true (p.told (empty_or_left bad r e) b g) g.at l (site_of (block_of image k) i w type ew et) g.few g.frees
+        site-turn image block b k n i (site_word w type) free used true (p.told (empty_or_left bad r e) b g) g.at l q (site_of block i w type ew et) g.few g.frees
         (site_right free used w type r s clean) (bit_or used x) refl
         (λ m _. has-or used x m
         ∙ ap (λ (t : Bool). has used m or t)

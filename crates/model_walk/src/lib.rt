@@ -1,5 +1,6 @@
 #![tactic(auto)]
 // One walk over the records of all boxes of a model that may only say "all right". Wrong digits are joined.
+// Bounds of indices and counts stand in the clauses: a type for each bound would be taken apart at every use.
 ghost use Rattle.std.specs.Prelude.{◌≡◌, ◌+◌, ◌*◌, ◌≤◌, length, IfSome};
 ghost use Rattle.std.proofs.Math.Option.{none};
 ghost use Rattle.definitions.specs.ReadModel.{blocks_fault};
@@ -8,8 +9,9 @@ ghost use Rattle.model_walk.specs.Sites.{TypeTold, SiteTold, SitesTold};
 ghost use Rattle.model_walk.specs.Boxes.{BoxesTold};
 
 use layouts::Layout;
-use line_table::{Kinds, table};
+use line_table::table;
 use line_walk::{Walked, walk_lines};
+use records::Lines;
 use records::names::complement;
 use sets::NameNo;
 
@@ -38,44 +40,50 @@ pub fn walk_sites(image: &[u8], k: usize, n: usize, free: u64, start: u64) -> Wa
     requires few { n ≤ 31 }
     ensures { SitesTold image.now k n free start result.bad result.names }
 {
+    let block = blocks::inside::block(image, k);
     let mut bad: u64 = 0;
     let mut used = start;
     for i in 0..n {
-        let w = blocks::inside::data_word(image, k, 2 * i);
-        let names = blocks::inside::data_word(image, k, 2 * i + 1);
+        let w = blocks::inside::data_word(block, 2 * i);
+        let names = blocks::inside::data_word(block, 2 * i + 1);
         bad |= site_wrong(free, used, w, names);
         used |= line_table::one(w);
     }
     Walked { bad, names: used }
 }
 
-// All boxes: for each box, the names that its lines bind, where no wrong digit is found. Every record fits then; and each binder is new, so
-// what a box binds is what is bound up to its end, less what was bound before it.
+// All boxes: the frame with the names that the lines of each box bind, where no wrong digit is found. Every record fits then; and each
+// binder is new, so what a box binds is what is bound up to its end, less what was bound before it. Asks of the image only that its blocks are
+// right, where RightBlocks knows its length too.
 #[tactic(auto, using(crate::proofs::BoxWalks::box_walks))]
-pub fn walk_boxes(image: &[u8], l: Layout) -> Option<[u64; 8]>
+pub fn walk_boxes(image: &[u8], frame: Layout) -> Option<Layout>
     requires blocks { blocks_fault image.now ≡ none }
-    requires frame { FrameOf image.now l }
-    ensures { IfSome result (λ bound. BoxesTold image.now bound) }
+    requires frame { FrameOf image.now frame }
+    ensures { IfSome result (λ l. BoxesTold image.now l) }
 {
-    let kinds = Kinds {
-        listed: l.listed,
-        free: l.free,
-        restricted: l.restricted,
-        received: l.received,
-        exposed: l.exposed,
-    };
+    let kinds = frame.kinds;
     let t = table(kinds);
-    let mut bound = [0u64; 8];
+    let mut each = frame.each;
     let mut used: u64 = 0;
     let mut seen: u64 = 0;
     let mut bad: u64 = 0;
-    for b in 0..l.boxes {
-        let s = walk_sites(image, l.at[b], l.sites[b], l.free, used);
-        let w = walk_lines(image, &t, kinds, l.at[b], l.lines[b], seen);
-        bound[b] = sets::intersection(w.names, complement(seen));
+    for b in 0..frame.boxes {
+        let place = frame.each[b];
+        let s = walk_sites(image, place.at, place.sites, kinds.free, used);
+        let lines = Lines {
+            image,
+            k: place.at,
+            n: place.lines,
+        };
+        let w = walk_lines(lines, &t, kinds, seen);
+        each[b].bound = sets::intersection(w.names, complement(seen));
         bad |= s.bad | w.bad;
         used = s.names;
         seen = w.names;
     }
-    if bad == 0 { Some(bound) } else { None }
+    if bad == 0 {
+        Some(Layout { each, ..frame })
+    } else {
+        None
+    }
 }

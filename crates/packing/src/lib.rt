@@ -1,5 +1,6 @@
 #![tactic(auto)]
-// Answers as one number: a tag, a number and two places; a broken clause with the name that is missing.
+// Answers as one number: a tag, a number and two places; a broken clause with the name that is missing. Tags and numbers are those of the C
+// interface (include/): 1 a broken clause, 2 and 3 a refused model and estimate, 4 yes, 5 no, 6 a refused call, 7 no room.
 ghost use Rattle.std.specs.Prelude.{◌≡◌};
 ghost use Rattle.refusals.specs.Answers.{answer_in};
 ghost use Rattle.analysis.specs.Answers.{not_accepted_in, verdict_in, reply_in};
@@ -59,6 +60,7 @@ pub fn of_reply(a: Result<bool, NoReply>) -> u64
     }
 }
 
+// From 10 on the call is refused, and not the model.
 #[tactic(auto, using(crate::proofs::Tests::decided))]
 fn tag(n: u8) -> u8
     ensures { result ≡ call_tag n }

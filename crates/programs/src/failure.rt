@@ -35,18 +35,13 @@ impl fmt::Display for Reason {
 
 // The first n bytes as text.
 fn text_of(bytes: &[u8], n: usize) -> &str {
-    match std::str::from_utf8(&bytes[..n.min(bytes.len())]) {
-        Ok(text) => text,
-        Err(_) => "",
-    }
+    std::str::from_utf8(&bytes[..n.min(bytes.len())]).unwrap_or("")
 }
 
 // An error's text without the number, where it has one.
 fn before_number(text: &str) -> &str {
-    match text.rsplit_once(" (os error ") {
-        Some((words, _)) => words,
-        None => text,
-    }
+    text.rsplit_once(" (os error ")
+        .map_or(text, |(words, _)| words)
 }
 
 // A line on standard error: what failed, a colon and the system's text.

@@ -10,6 +10,8 @@ use std::{fs, io};
 
 mod failure;
 
+// Two buffers by name: a const argument is a literal, and each length stands in one place so.
+
 // One byte more than the largest model has: enough to refuse a file that is too long.
 pub fn model_buffer() -> [u8; 20993]
     ensures { 20993 ≡ length result }
@@ -55,7 +57,8 @@ fn read_full<F: Read>(file: &mut F, buffer: &mut [u8]) -> usize
     done
 }
 
-// How many bytes of a file stand in the buffer, at most its length: none of a file that cannot be opened.
+// How many bytes of a file stand in the buffer, at most its length: none of a file that cannot be opened. A buffer and a count, as the library's
+// `read` has them: fixed memory, no heap.
 pub fn load<R: Files>(rt: &R, path: &[u8], buffer: &mut [u8]) -> usize
     ensures { IsPrefixLen result buffer.new }
 {

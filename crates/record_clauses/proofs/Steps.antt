@@ -17,7 +17,7 @@ use Rattle.definitions.proofs.Bounded.{and_iff, is_iff, below_iff, true_of, of_t
 use Rattle.definitions.proofs.Sets.{short_iff, short_some}
 use Rattle.definitions.proofs.Faults.{when_iff}
 use Rattle.definitions.proofs.Clauses.{at_iff}
-use Rattle.clauses.proofs.Members.{rho_names, box_62, names_62, second_62, box_512, box_1024}
+use Rattle.clauses.proofs.Members.{rho_names, box_62, names_62, second_62, box_512, box_1024, boxed}
 use Rattle.sharing.specs.declared.Gathered.{Gathered}
 use Rattle.sharing.specs.Shared.{Least, all_sent_in, shared_on, may_send, GatheredOf}
 use Rattle.sharing.proofs.Gather.{four_met, five-met, six_met}
@@ -191,6 +191,6 @@ module _ (e : Estimate) (boxes b : ℕ) (l : paper.Line) (g : Gathered) where
     pub may_6 : l.op ≡ 5 → MetWhere (within g.asks (e.rho l.name2)) (cl.clause6 e boxes b l)
     may_6 = d.six
 
-pub ruleset arms = (rules, box_512, box_1024, names_62, may_4, may_5, may_6, arm_3, arm_4, arm_five, arm_six, arm_6, arm_7, arm_8, arm_none)
+pub ruleset arms = (rules, boxed, box_512, box_1024, names_62, may_4, may_5, may_6, arm_3, arm_4, arm_five, arm_six, arm_6, arm_7, arm_8, arm_none)
 
 pub ruleset gathered = (rules, rho_names, box_62, names_62, second_62, gathered_4, gathered_5, gathered_other)

@@ -1,20 +1,22 @@
 // The clauses at one line.
+// Bounds of indices and counts stand in the clauses: a type for each bound would be taken apart at every use.
 ghost use Rattle.std.specs.Prelude.{◌≡◌, ◌<◌};
 ghost use Rattle.definitions.specs.Estimate.{estimate_of};
 ghost use Rattle.definitions.specs.Clauses.{broken_at};
 ghost use Rattle.records.specs.Records.{line_in};
 ghost use Rattle.subsets.specs.Within.{within_in};
-ghost use Rattle.clauses.specs.Known.{BoxOfNames, EstimateOfNames, LineOfNames};
 ghost use Rattle.sharing.specs.Shared.{GatheredOf};
 ghost use Rattle.record_clauses.specs.Found.{found_in};
 ghost use Rattle.record_clauses.specs.Known.{ShowsMet, LineFound};
 
 use crate::Broken;
-use records::{Line, Op};
+use clauses::NamedLine;
+use estimate::Estimate;
+use records::Op;
 use sets::NameNo;
 use sharing::{Gathered, Tables};
 
-// The operations that clauses speak of.
+// The operations that clauses speak of. A match over a line's number takes constants, and no casts.
 const RESTRICTION: u8 = Op::Restriction as u8;
 
 const OUTPUT: u8 = Op::Output as u8;
@@ -46,19 +48,21 @@ pub fn broken_at(
 
 // What clauses 4, 5 and 6 ask of line l of box b, an output or an input; g: of an earlier line.
 #[tactic(auto, using(crate::proofs::Steps::gathered))]
-pub fn gather(t: &Tables<'_>, b: usize, l: Line, g: Gathered) -> Gathered
-    requires box_in { b < t.now.boxes }
-    requires line { LineOfNames (line_in l) }
-    requires gathered { GatheredOf (estimate_of t.now.estimate.now) t.now.boxes b g }
-    ensures gathered { GatheredOf (estimate_of t.now.estimate.now) t.now.boxes b result }
-    ensures shows { ShowsMet (estimate_of t.now.estimate.now) t.now.boxes b (line_in l) result }
+pub fn gather(t: &Tables<'_>, b: usize, l: NamedLine, g: Gathered) -> Gathered
+    requires box_in { b < t.now.estimate.boxes }
+    requires gathered { GatheredOf (estimate_of t.now.estimate.image.now) t.now.estimate.boxes b g }
+    ensures gathered { GatheredOf (estimate_of t.now.estimate.image.now) t.now.estimate.boxes b result }
+    ensures shows { ShowsMet (estimate_of t.now.estimate.image.now) t.now.estimate.boxes b (line_in l.line) result }
 {
     let e = t.estimate;
-    match l.op {
-        OUTPUT => sharing::for_outputs(e, t.boxes, b, estimate::rho(e, l.name1), g),
+    match l.line.op {
+        OUTPUT => {
+            let s = e.rho(l.line.name1);
+            sharing::for_outputs(e.image, e.boxes, b, s, g)
+        }
         INPUT => {
-            let s = estimate::rho(e, l.name1);
-            t.for_partners(b, s, sharing::for_inputs(e, t.boxes, b, s, g))
+            let s = e.rho(l.line.name1);
+            t.for_partners(b, s, sharing::for_inputs(e.image, e.boxes, b, s, g))
         }
         _ => g,
     }
@@ -67,30 +71,27 @@ pub fn gather(t: &Tables<'_>, b: usize, l: Line, g: Gathered) -> Gathered
 // The clauses of line i of box b, by its operation; g: what 4, 5 and 6 ask there.
 #[tactic(auto, using(crate::proofs::Steps::arms))]
 pub fn by_operation(
-    estimate: &[u8],
-    boxes: usize,
+    e: Estimate<'_>,
     g: Gathered,
     b: usize,
     i: usize,
-    l: Line,
+    l: NamedLine,
 ) -> Result<(), Broken>
-    requires names { EstimateOfNames estimate.now boxes }
-    requires box_names { BoxOfNames estimate.now b }
-    requires box_in { b < boxes }
-    requires line { LineOfNames (line_in l) }
-    requires shows { ShowsMet (estimate_of estimate.now) boxes b (line_in l) g }
-    ensures { LineFound (estimate_of estimate.now) boxes b i (line_in l) (found_in result) }
+    requires box_in { b < e.boxes }
+    requires shows { ShowsMet (estimate_of e.image.now) e.boxes b (line_in l.line) g }
+    ensures { LineFound (estimate_of e.entry.image.now) e.entry.boxes b i (line_in l.line) (found_in result) }
 {
-    match l.op {
-        RESTRICTION => broken_at(clauses::clause3(estimate, l), 3, b, i),
-        OUTPUT => broken_at(shortages::clause4(estimate, g.most, b, l), 4, b, i),
+    let image = e.image;
+    match l.line.op {
+        RESTRICTION => broken_at(clauses::clause3(image, l.line), 3, b, i),
+        OUTPUT => broken_at(shortages::clause4(image, g.most, b, l), 4, b, i),
         INPUT => {
-            broken_at(shortages::clause5(estimate, g.all, b, l), 5, b, i)?;
-            broken_at(partners::clause6(estimate, g.asks, boxes, b, l), 6, b, i)
+            broken_at(shortages::clause5(image, g.all, b, l), 5, b, i)?;
+            broken_at(partners::clause6(e, g.asks, b, l), 6, b, i)
         }
-        EXPOSE => broken_at(clauses::clause7(estimate, b, l), 7, b, i),
-        HIDE => broken_at(clauses::clause8(estimate, b, l), 8, b, i),
-        UNHIDE => broken_at(clauses::clause9(estimate, b, l), 9, b, i),
+        EXPOSE => broken_at(clauses::clause7(image, b, l), 7, b, i),
+        HIDE => broken_at(clauses::clause8(image, b, l.line), 8, b, i),
+        UNHIDE => broken_at(clauses::clause9(image, b, l.line), 9, b, i),
         _ => Ok(()),
     }
 }

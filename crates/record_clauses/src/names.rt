@@ -1,4 +1,5 @@
 // Clause 1, by name.
+// A set of names is a word, since words are joined with & and |; that it has no digit past the names is a clause.
 ghost use Rattle.std.specs.Prelude.{◌≤◌, length};
 ghost use Rattle.definitions.specs.Estimate.{estimate_of};
 ghost use Rattle.sets.specs.Names.{NamesOnly};
@@ -7,7 +8,8 @@ ghost use Rattle.record_clauses.specs.Known.{NamesFound};
 
 use crate::Broken;
 
-// The free names, ascending: the first that is not in its own set is the record, and is what is missing.
+// The free names, ascending: the first that is not in its own set is the record, and is what is missing. Asks of the
+// estimate only the blocks that it reads.
 pub fn names(estimate: &[u8], free: u64) -> Result<(), Broken>
     requires there { 512 ≤ length estimate.now }
     requires names { NamesOnly free }

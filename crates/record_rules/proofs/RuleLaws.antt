@@ -3,7 +3,7 @@ use mathlib.Core.Path.{◌≡◌, refl, sym, ap, ap₂, ◌∙◌, subst}
 use mathlib.Core.Bool.{Bool, true, false, not, ◌&&◌, ◌||◌}
 use mathlib.Core.List.{List}
 use mathlib.Core.Logic.{◌⊎◌, inl, inr}
-use Prim.Native.Nat.{ℕ, ◌-◌, ◌^◌, ◌≤◌, ◌<◌}
+use Prim.Native.Nat.{ℕ, ◌*◌, ◌%◌, ◌^◌, ◌≤◌, ◌<◌}
 use native.Mathlib.Omega.{arith}
 use native.Mathlib.Decide.{dec_lt}
 use borrow.Author.Rules.{rules}
@@ -14,13 +14,16 @@ use Rattle.definitions.specs.Bounded.{◌and◌, ◌or◌, ◌implies◌, ◌is�
 use Rattle.definitions.specs.Sets.{has, within, meets}
 use Rattle.definitions.specs.Model.{Site, Line, box_at, listed, is_free, kind_of_name, has_child, binds, bound_above}
 use Rattle.definitions.specs.ReadModel.{type_fits, used_before, site_fits, uses_name1, uses_name2, uses_child1, line_fits, uses, bound_before, reach_fits}
-use Rattle.definitions.proofs.Bounded.{tests, and_iff, or_iff, implies_iff, is_iff, below_iff, all_iff, true_of, false_of, of_true, not-false, same_test, decide, and_is, or_is}
+use Rattle.definitions.proofs.Bounded.{tests, and_iff, or_iff, implies_iff, is_iff, below_iff, all_iff, false_of, of_true, not-false, same_test, decide, and_is, or_is}
 use Rattle.definitions.proofs.Faults.{not_iff}
-use Rattle.definitions.proofs.Sets.{has_above, within_iff, meets_iff, and-true, or_assoc, or-false}
+use native.Mathlib.Nat.{one-mul, mod-eq_of_lt}
+use lib.Pow.{pow-lt}
+use lib.Bits.{bit_or}
+use Rattle.definitions.proofs.Sets.{has_above, has_bit, has-or, has_one, within_iff, meets_iff, and-true, or_assoc, or-false}
 use Rattle.record_rules.specs.declared.line_sets.LineSet.{LineSet}
 use Rattle.records.specs.NameSets.{SetOf}
 use Rattle.record_rules.specs.Rules.{is_free_or_unlisted, site_ok, shape_fit, names_fit, bound_fit, expose_fit, line_ok, tree_ok, DecidesSite, DecidesLine, DecidesChild, DecidesTree, DecidesReach}
-use Rattle.record_rules.specs.LineSets.{line_is, insert_line, insert_children, LineSetOf}
+use Rattle.record_rules.specs.LineSets.{insert_line, insert_children, LineSetOf}
 
 -- ---- a set that says all of a test, where the test fails from 64 on
 
@@ -200,80 +203,41 @@ line_joined l a r c e shape names bound shown f g h k fa fr fc fe =
 
 -- ---- 8
 
--- a set of lines by its second-used words
-low_line : (low high c : ℕ) → c < 64 → line_is low high c ≡ has low c
-unfolding line_is
-low_line low high c h =
-    ap (λ (b : Bool). elim b as (λ _. Bool) [ true ↦ has low c | false ↦ has high (c - 64) ]) (true_of (c below 64) ((below_iff c 64).1 h))
+-- a digit of a set of lines
+pub has-none_past : (s c : ℕ) → s < 2 ^ 128 → 128 ≤ c → false ≡ has s c
+has-none_past s c h l = sym (has_above 128 s c h l)
 
-high_line : (low high c : ℕ) → 64 ≤ c → line_is low high c ≡ has high (c - 64)
-unfolding line_is
-high_line low high c h =
-    ap (λ (b : Bool). elim b as (λ _. Bool) [ true ↦ has low c | false ↦ has high (c - 64) ])
-    (false_of (c below 64) (λ t. let l = (below_iff c 64).0 t in omega arith))
-
-pub has_low : (low high c n : ℕ) (r : Bool) → n ≡ c → r ≡ has low n → c < 64 → (c < 128 → r ≡ line_is low high c)
-has_low low high c n r q e h = λ _. e ∙ ap (has low) q ∙ sym (low_line low high c h)
-
-pub has_high : (low high c n : ℕ) (r : Bool) → n ≡ c - 64 → r ≡ has high n → 64 ≤ c → (c < 128 → r ≡ line_is low high c)
-has_high low high c n r q e h = λ _. e ∙ ap (has high) q ∙ sym (high_line low high c h)
-
-pub has_past : (low high c : ℕ) (r : Bool) → 128 ≤ c → (c < 128 → r ≡ line_is low high c)
-has_past low high c r h = λ l. absurd (omega arith)
-
--- no line is another
-apart : (p : Bool) (c d : ℕ) → (c ≡ d → ⊥) → p ≡ (p or c is d)
-apart p c d f = sym (ap (λ (t : Bool). p or t) (false_of (c is d) (λ u. f ((is_iff c d).0 u))) ∙ or-false p)
-
-module _ (low high c n r : ℕ) where
-  pub put_low : c < 64 → n ≡ c → ((m : ℕ) → m < 64 → has r m ≡ (has low m or n is m))
-      → LineSetOf (record { low = r; high = high }) (insert_line low high c)
-  unfolding insert_line
-  put_low h q s = record { at = λ d l. pick d l (dec_lt d 64) }
-    where
-      pick : (d : ℕ) → d < 128 → Dec (d < 64) → line_is r high d ≡ (line_is low high d or c is d)
-      pick d l (yes k) =
-          low_line r high d k ∙ s d k ∙ ap₂ (λ (x : Bool) (y : ℕ). x or y is d) (sym (low_line low high d k)) q
-      pick d l (no k) =
-          high_line r high d (omega arith) ∙ sym (high_line low high d (omega arith))
-          ∙ apart (line_is low high d) c d (λ e. absurd (omega arith))
-
-  pub put_high : 64 ≤ c → n ≡ c - 64 → ((m : ℕ) → m < 64 → has r m ≡ (has high m or n is m))
-      → LineSetOf (record { low = low; high = r }) (insert_line low high c)
-  unfolding insert_line
-  put_high h q s = record { at = λ d l. pick d l (dec_lt d 64) }
-    where
-      pick : (d : ℕ) → d < 128 → Dec (d < 64) → line_is low r d ≡ (line_is low high d or c is d)
-      pick d l (yes k) =
-          low_line low r d k ∙ sym (low_line low high d k) ∙ apart (line_is low high d) c d (λ e. absurd (omega arith))
-      pick d l (no k) =
-          let same : (n is (d - 64)) ≡ (c is d) =
-          same_test (n is (d - 64)) (c is d) (λ u. (is_iff c d).1 (let e = (is_iff n (d - 64)).0 u in omega arith))
-          (λ u. (is_iff n (d - 64)).1 (let e = (is_iff c d).0 u in omega arith)) in
-          high_line low r d (omega arith) ∙ s (d - 64) (omega arith)
-          ∙ ap₂ ◌or◌ (sym (high_line low high d (omega arith))) same
-
-pub put_past : (k : LineSet) (c : ℕ) → 128 ≤ c → LineSetOf k (insert_line k.low k.high c)
+pub put_in : (s c : ℕ) → c < 128 → LineSetOf (record { 0 = bit_or s ((1 * 2 ^ c) % 2 ^ 128) }) (insert_line s c)
 unfolding insert_line
-put_past k c h = record { at = λ d l. apart (line_is k.low k.high d) c d (λ e. absurd (omega arith)) }
+put_in s c l = record {
+  at = λ d _.
+      ap (λ (x : ℕ). has (bit_or s x) d) (ap (λ (x : ℕ). x % 2 ^ 128) (one-mul (2 ^ c)) ∙ mod-eq_of_lt (pow-lt l))
+      ∙ has-or s (2 ^ c) d ∙ ap (λ (t : Bool). has s d or t) (has_one c d);
+}
+
+pub put_past : (k : LineSet) (c : ℕ) → 128 ≤ c → LineSetOf k (insert_line k.0 c)
+unfolding insert_line
+put_past k c h = record {
+  at = λ d l. sym (ap (λ (t : Bool). has k.0 d or t) (false_of (c is d) (λ u. let e = (is_iff c d).0 u in omega arith)) ∙ or-false (has k.0 d));
+}
 
 -- the children put in, by the operation: none, one, two
 module _ (k : LineSet) (l : Line) where
-  pub children_none : l.op ≡ 0 → LineSetOf k (insert_children k.low k.high l)
+  pub children_none : l.op ≡ 0 → LineSetOf k (insert_children k.0 l)
   unfolding insert_children has_child ◌is◌ ◌isnt◌ ◌and◌
   children_none o = record {
     at = λ c h.
-        let x = line_is k.low k.high c in
+        let x = has k.0 c in
         let y = eqb l.child1 c or (eqb l.op 1 and eqb l.child2 c) in
         sym (ap (λ (t : Bool). x or (not t and y)) (eq-eqb l.op 0 o) ∙ or-false x);
   }
 
-  pub children_one : (a : LineSet) → (l.op ≡ 0 → ⊥) → (l.op ≡ 1 → ⊥) → LineSetOf a (insert_line k.low k.high l.child1)
-      → LineSetOf a (insert_children k.low k.high l)
+  pub children_one : (a : LineSet) → (l.op ≡ 0 → ⊥) → (l.op ≡ 1 → ⊥) → LineSetOf a (insert_line k.0 l.child1)
+      → LineSetOf a (insert_children k.0 l)
   unfolding insert_line insert_children has_child ◌is◌ ◌isnt◌ ◌and◌
   children_one a o q f = record {
     at = λ c h.
-        let x = line_is k.low k.high c in
+        let x = has k.0 c in
         let y = eqb l.child1 c in
         let z = eqb l.child2 c in
         f.at c h
@@ -281,12 +245,12 @@ module _ (k : LineSet) (l : Line) where
         ∙ ap (λ (t : Bool). x or t) (or-false y));
   }
 
-  pub children_two : (a r : LineSet) → l.op ≡ 1 → LineSetOf a (insert_line k.low k.high l.child1)
-      → LineSetOf r (insert_line a.low a.high l.child2) → LineSetOf r (insert_children k.low k.high l)
+  pub children_two : (a r : LineSet) → l.op ≡ 1 → LineSetOf a (insert_line k.0 l.child1)
+      → LineSetOf r (insert_line a.0 l.child2) → LineSetOf r (insert_children k.0 l)
   unfolding insert_line insert_children has_child ◌is◌ ◌isnt◌ ◌and◌
   children_two a r o f g = record {
     at = λ c h.
-        let x = line_is k.low k.high c in
+        let x = has k.0 c in
         let y = eqb l.child1 c in
         let z = eqb l.child2 c in
         g.at c h ∙ ap (λ (t : Bool). t or z) (f.at c h) ∙ or_assoc x y z
@@ -294,13 +258,13 @@ module _ (k : LineSet) (l : Line) where
   }
 
 module _ (i c n : ℕ) (seen : LineSet) where
-  pub child_in : (k : Bool) → (ltb i c && ltb c n) ≡ true → (c < 128 → k ≡ line_is seen.low seen.high c) → DecidesChild i c n seen (not k)
+  pub child_in : (k : Bool) → (ltb i c && ltb c n) ≡ true → k ≡ has seen.0 c → DecidesChild i c n seen (not k)
   unfolding ◌below◌ ◌and◌
   child_in k ok ek = record {
     decides = λ p children few.
         let both : (ltb i c and ltb c n) ≡ true = sym (and_is (ltb i c) (ltb c n)) ∙ ok in
         let l : c < n = (below_iff c n).0 ((and_iff (ltb i c) (ltb c n)).0 (of_true both)).1 in
-        ap not (ek (omega arith) ∙ children.at c (omega arith)) ∙ sym (ap (λ (t : Bool). t and not (p c)) both);
+        ap not (ek ∙ children.at c (omega arith)) ∙ sym (ap (λ (t : Bool). t and not (p c)) both);
   }
 
   pub child_out : (ltb i c && ltb c n) ≡ false → DecidesChild i c n seen false
@@ -336,9 +300,9 @@ tree-first l i n seen all f o first e = record {
   decides = λ p q few low before s. in_tree-first _ _ _ _ _ (ne_eqb l.op 0 o) (sym (first.decides p before few) ∙ e);
 }
 
-module _ (l : Line) (i n : ℕ) (seen all : LineSet) (h : Bool) (eh : i < 128 → h ≡ line_is all.low all.high i) where
+module _ (l : Line) (i n : ℕ) (seen all : LineSet) (h : Bool) (eh : h ≡ has all.0 i) where
   named : (q : ℕ → Bool) → n ≤ 124 → i < n → LineSetOf all q → (not (eqb i 0) implies q i) ≡ (eqb i 0 || h)
-  named q few low s = sym (implied (eqb i 0) h ∙ ap (λ (t : Bool). not (eqb i 0) implies t) (eh (omega arith) ∙ s.at i (omega arith)))
+  named q few low s = sym (implied (eqb i 0) h ∙ ap (λ (t : Bool). not (eqb i 0) implies t) (eh ∙ s.at i (omega arith)))
 
   pub tree-unnamed : (eqb i 0 || h) ≡ false → DecidesTree l i n seen all false
   unfolding tree_ok ◌is◌ ◌isnt◌
@@ -401,4 +365,12 @@ reach_decided l free-or-unlisted above bound us v bs w mt u un ew bi em = record
       ∙ ap (λ (l : Line). all_below 64 (λ n. (uses l n implies kind_of_name kinds n is 0 or bound_above x i n) and (binds l n implies not (bound_before m b i n)))) e;
 }
 
-pub ruleset record_laws = (rules, site_joined, shape_is, rule_yes, rule_no, names_is, bound-is, expose_yes, expose_no, line_joined, has_low, has_high, has_past, put_low, put_high, put_past, children_none, children_one, children_two, child_in, child_out, tree-first, tree-unnamed, tree-nil, tree-one, tree-two, reach_decided)
+pub ruleset line_laws = (rules, rule_yes, rule_no, names_is, expose_yes, expose_no, line_joined)
+
+pub ruleset set_laws = (rules, has_bit, has-none_past, put_in, put_past, children_none, children_one)
+
+pub ruleset child_laws = (rules, child_in, child_out)
+
+pub ruleset tree_laws = (rules, tree-first, tree-unnamed, tree-nil, tree-one)
+
+pub ruleset reach_laws = (rules, reach_decided)

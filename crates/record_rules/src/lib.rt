@@ -8,12 +8,11 @@ ghost use Rattle.record_rules.specs.Rules.{shape_fit, names_fit, bound_fit, expo
 
 use crate::line_sets::{LineSet, has_line};
 use records::names::{binder, type_fits, used};
-use records::{Line, Op, Site};
+use records::{Kinds, Line, Op, Site};
 
 pub mod line_sets;
 
 // free: the free names; used: the subjects of the sites before.
-#[tactic(auto, using(crate::proofs::RuleLaws::record_laws))]
 pub fn site_fits(s: Site, free: u64, used: u64) -> bool
     ensures { DecidesSite (site_in s) free used result }
 {
@@ -22,7 +21,7 @@ pub fn site_fits(s: Site, free: u64, used: u64) -> bool
 }
 
 // A field passes a test where it is used, and is else zero.
-#[tactic(auto, using(crate::proofs::RuleLaws::record_laws))]
+#[tactic(auto, using(crate::proofs::RuleLaws::line_laws))]
 fn field_fits(used: bool, ok: bool, zero: bool) -> bool
     ensures { result ≡ ((used implies ok) and (not used implies zero)) }
 {
@@ -30,7 +29,6 @@ fn field_fits(used: bool, ok: bool, zero: bool) -> bool
 }
 
 // A known operation; the spare byte, and the children that it does not use, are zero.
-#[tactic(auto, using(crate::proofs::RuleLaws::record_laws))]
 fn shape_fits(l: Line) -> bool
     ensures { result ≡ shape_fit (line_in l) }
 {
@@ -41,7 +39,7 @@ fn shape_fits(l: Line) -> bool
 }
 
 // Each name that the operation uses is listed, and else zero.
-#[tactic(auto, using(crate::proofs::RuleLaws::record_laws))]
+#[tactic(auto, using(crate::proofs::RuleLaws::line_laws))]
 fn names_fit(l: Line, all: u64) -> bool
     ensures { result ≡ names_fit (names.has all) (line_in l) }
 {
@@ -56,7 +54,6 @@ fn names_fit(l: Line, all: u64) -> bool
 }
 
 // A restriction's name and an input's second are of the kinds bound there.
-#[tactic(auto, using(crate::proofs::RuleLaws::record_laws))]
 fn bound_fits(l: Line, restricted: u64, received: u64) -> bool
     ensures { result ≡ bound_fit (names.has restricted) (names.has received) (line_in l) }
 {
@@ -65,7 +62,7 @@ fn bound_fits(l: Line, restricted: u64, received: u64) -> bool
 }
 
 // An expose's name is of its kind, and its type fits; any other line has no type.
-#[tactic(auto, using(crate::proofs::RuleLaws::record_laws))]
+#[tactic(auto, using(crate::proofs::RuleLaws::line_laws))]
 fn expose_fits(l: Line, all: u64, exposed: u64) -> bool
     ensures { result ≡ expose_fit (names.has all) (names.has exposed) (line_in l) }
 {
@@ -76,17 +73,17 @@ fn expose_fits(l: Line, all: u64, exposed: u64) -> bool
     }
 }
 
-// all: the listed names; then those of each kind that a line binds.
-#[tactic(auto, using(crate::proofs::RuleLaws::record_laws))]
-pub fn line_fits(l: Line, all: u64, restricted: u64, received: u64, exposed: u64) -> bool
-    ensures { DecidesLine (line_in l) all restricted received exposed result }
+#[tactic(auto, using(crate::proofs::RuleLaws::line_laws))]
+pub fn line_fits(l: Line, kinds: Kinds) -> bool
+    ensures { DecidesLine (line_in l) kinds.listed kinds.restricted kinds.received kinds.exposed result }
 {
-    let fields = shape_fits(l) & names_fit(l, all);
-    fields & bound_fits(l, restricted, received) & expose_fits(l, all, exposed)
+    let fields = shape_fits(l) & names_fit(l, kinds.listed);
+    let bound = bound_fits(l, kinds.restricted, kinds.received);
+    fields & bound & expose_fits(l, kinds.listed, kinds.exposed)
 }
 
 // Line c of n as a child of line i; seen: the children of the lines before.
-#[tactic(auto, using(crate::proofs::RuleLaws::record_laws))]
+#[tactic(auto, using(crate::proofs::RuleLaws::child_laws))]
 fn child_fits(i: usize, c: usize, n: usize, seen: LineSet) -> bool
     ensures { DecidesChild i c n seen result }
 {
@@ -98,7 +95,7 @@ fn child_fits(i: usize, c: usize, n: usize, seen: LineSet) -> bool
 }
 
 // seen: the children of the lines before; all: those of all n lines. A child that the operation does not use is not looked at.
-#[tactic(auto, using(crate::proofs::RuleLaws::record_laws))]
+#[tactic(auto, using(crate::proofs::RuleLaws::tree_laws))]
 pub fn tree_fits(l: Line, i: usize, n: usize, seen: LineSet, all: LineSet) -> bool
     ensures { DecidesTree (line_in l) i n seen all result }
 {
@@ -120,7 +117,7 @@ pub fn tree_fits(l: Line, i: usize, n: usize, seen: LineSet, all: LineSet) -> bo
 }
 
 // free_or_unlisted: the names that need no binding; above: those bound strictly above the line; bound: those bound by the lines before.
-#[tactic(auto, using(crate::proofs::RuleLaws::record_laws))]
+#[tactic(auto, using(crate::proofs::RuleLaws::reach_laws))]
 pub fn reach_fits(l: Line, free_or_unlisted: u64, above: u64, bound: u64) -> bool
     ensures { DecidesReach (line_in l) free_or_unlisted above bound result }
 {

@@ -3,12 +3,13 @@ use mathlib.Core.Path.{◌≡◌, sym, ap, ◌∙◌}
 use mathlib.Core.List.{List}
 use Prim.Native.Nat.{ℕ, ◌+◌, ◌*◌, ◌/◌, ◌%◌, ◌≤◌, ◌<◌}
 use native.Mathlib.Omega.{arith}
+use borrow.Author.Rules.{rules}
 use lib.ListN.{length}
 use Rattle.definitions.specs.Words.{word_at, block_of, count_of, data_word}
 use Rattle.definitions.specs.Model.{Box, site_at, line_at, box_at, site_count, line_count}
 use Rattle.definitions.specs.Image.{site_record, model_of}
 use Rattle.definitions.proofs.Words.{data_word_block}
-use Rattle.definitions.proofs.Image.{model_box, box_sites, box_site, box_lines, box_line}
+use Rattle.definitions.proofs.Image.{line_of, model_box, box_sites, box_site, box_lines, box_line}
 use Rattle.records.specs.Places.{LinesThere, LinesAt, SitesAt, line_record_at}
 
 -- the two words of line i, at their place in the image
@@ -44,3 +45,7 @@ module _ (image : List ℕ) (b k n : ℕ) (h : SitesAt image b k n) where
   pub site-count : n ≡ site_count (box_at (model_of image) b)
   site-count =
       h.sites ∙ ap (λ (j : ℕ). count_of (block_of image j)) h.at ∙ sym (box_sites image b) ∙ ap site_count (sym (model_box image b h.inside))
+
+pub ruleset places = (rules, line-there, lines_of_box)
+
+pub ruleset line_words = (rules, line_of, lowest-word, second_word)

@@ -1,4 +1,5 @@
-// The records inside an image: a name's kind, a site, a line. Each requires the blocks that it reads.
+// The records of an image: a name's kind, a site of a block, a line. Each requires the blocks that it reads.
+// Bounds of indices and counts stand in the clauses: a type for each bound would be taken apart at every use.
 ghost use Rattle.std.specs.Prelude.{◌≡◌, ◌+◌, ◌*◌, ◌/◌, ◌%◌, ◌<◌, ◌≤◌, length};
 ghost use Rattle.definitions.specs.Words.{block_of};
 ghost use Rattle.definitions.specs.Model as model;
@@ -6,9 +7,11 @@ ghost use Rattle.definitions.specs.Image.{site_record, line_record, name_count, 
 ghost use Rattle.records.specs.Records.{site_in, line_in};
 
 use crate::{Line, Site};
+pub use blocks::inside::block;
 use sets::NameNo;
 
-// The kind of a name of the list.
+// The kind of a name of the list: a word, which may be any before the head is tested; it is compared with a NameKind's number. Over the image:
+// its contract is of the image's names, and so is what is asked.
 #[tactic(auto, using(definitions::proofs::Image::kind_of))]
 pub fn kind(image: &[u8], n: NameNo) -> u64
     requires there { 512 ≤ length image.now }
@@ -16,18 +19,18 @@ pub fn kind(image: &[u8], n: NameNo) -> u64
     requires few { n.0 < 60 }
     ensures { result ≡ model.kind_of_name (kinds_of image.now) n.0 }
 {
-    blocks::inside::data_word(image, 0, 2 + usize::from(n.0))
+    let head = block(image, 0);
+    blocks::inside::data_word(head, 2 + usize::from(n.0))
 }
 
 // Record i of a block of sites.
 #[tactic(auto, using(definitions::proofs::Image::site_of))]
-pub fn site(image: &[u8], k: usize, i: usize) -> Site
-    requires there { 512 * (k + 1) ≤ length image.now }
-    requires inside { i < 31 }
-    ensures { site_in result ≡ site_record (block_of image.now k) i }
+pub fn site(block: &[u8; 512], i: usize) -> Site
+    requires { i < 31 }
+    ensures { site_in result ≡ site_record block.now i }
 {
-    let w = blocks::inside::data_word(image, k, 2 * i);
-    let names = blocks::inside::data_word(image, k, 2 * i + 1);
+    let w = blocks::inside::data_word(block, 2 * i);
+    let names = blocks::inside::data_word(block, 2 * i + 1);
     Site {
         subject: NameNo((w % 256) as u8),
         flag: (w / 0x100 % 256) as u8,
@@ -37,6 +40,7 @@ pub fn site(image: &[u8], k: usize, i: usize) -> Site
 }
 
 // Line i of the box whose sites are block k. The lines follow, 31 to a block: a line is 16 bytes, and a block has 16 bytes besides.
+#[tactic(auto, using(crate::proofs::PlaceLaws::line_words))]
 pub fn line(image: &[u8], k: usize, i: usize) -> Line
     requires { 512 * (k + 1 + i / 31 + 1) ≤ length image.now }
     ensures { line_in result ≡ line_record (block_of image.now (k + 1 + i / 31)) (i % 31) }

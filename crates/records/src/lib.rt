@@ -1,5 +1,9 @@
 #![tactic(auto)]
 // What one record of a model image says: a site, a line, the kind of a name, and the names that a line binds and uses.
+ghost use Rattle.std.specs.Prelude.{◌≡◌, ◌<◌};
+ghost use Rattle.records.specs.Records.{line_in};
+ghost use Rattle.records.specs.Places.{LinesThere, line_record_at};
+
 use sets::NameNo;
 
 pub mod inside;
@@ -28,7 +32,17 @@ pub enum NameKind {
     Exposed = 3,
 }
 
-// A site's record; names is its type.
+// The listed names, and those of each kind.
+#[derive(Clone, Copy)]
+pub struct Kinds {
+    pub listed: u64,
+    pub free: u64,
+    pub restricted: u64,
+    pub received: u64,
+    pub exposed: u64,
+}
+
+// A site's record; names is its type. flag is the byte of document 01, 0 shown or 1 hidden, and may be any other before rule 6 has passed.
 #[derive(Clone, Copy)]
 pub struct Site {
     pub subject: NameNo,
@@ -37,7 +51,7 @@ pub struct Site {
     pub names: u64,
 }
 
-// A line's record; names is its type.
+// A line's record; names is its type. op is the image's byte, compared with an Op's number: it may be any byte before rule 7 has passed.
 #[derive(Clone, Copy)]
 pub struct Line {
     pub op: u8,
@@ -47,4 +61,24 @@ pub struct Line {
     pub child1: usize,
     pub child2: usize,
     pub names: u64,
+}
+
+// The n lines after block k of an image. A loop over them goes over 0..n and no Iterator: most loops say which line they stand at.
+#[derive(Clone, Copy)]
+pub struct Lines<'a> {
+    pub image: &'a [u8],
+    pub k: usize,
+    pub n: usize,
+    pub ghost there: { LinesThere image.now k n },
+}
+
+impl<'a> Lines<'a> {
+    // Line i.
+    #[tactic(auto, using(crate::proofs::PlaceLaws::places))]
+    pub fn line(&self, i: usize) -> Line
+        requires { i < self.now.n }
+        ensures { line_in result ≡ line_record_at self.now.image.now self.now.k i }
+    {
+        inside::line(self.image, self.k, i)
+    }
 }

@@ -1,6 +1,6 @@
 -- Laws of checks in a row: one after another, and a run of them below a bound. A premise says what a check finds, `none` or `some a`, as the arms of
 -- `?` know it. Assumes nothing.
-use Rattle.std.proofs.Common.{◌≡◌, ℕ, ◌+◌, ◌≤◌, ◌<◌, Bool, true, false, refl, sym, ap, ◌∙◌, rules}
+use Rattle.std.proofs.Common.{◌≡◌, ℕ, ◌+◌, ◌≤◌, ◌<◌, Bool, true, false, sym, ap, ◌∙◌, rules}
 use Rattle.std.proofs.Math.Option.{Option, none, some}
 use Rattle.definitions.specs.Bounded.{some_if, or_else, first_below}
 use Rattle.definitions.proofs.Bounded.{first-zero}

@@ -30,17 +30,26 @@ pub struct Refusal {
     pub second: usize,
 }
 
-// A refusal where a test says so.
-pub fn fault_if(bad: bool, rule: Rule, place: usize, second: usize) -> Result<(), Refusal>
-    ensures { answer_in result ≡ some_if bad (refusal (rule_number rule) place second) }
+// A refusal where a test says so, by its number: that of any enum of refusals.
+pub fn fault_if(bad: bool, number: u8, place: usize, second: usize) -> Result<(), Refusal>
+    ensures { answer_in result ≡ some_if bad (refusal number place second) }
 {
     if bad {
         Err(Refusal {
-            number: rule as u8,
+            number,
             place,
             second,
         })
     } else {
         Ok(())
+    }
+}
+
+impl Rule {
+    // This refusal where a test says so.
+    pub fn fault_if(self, bad: bool, place: usize, second: usize) -> Result<(), Refusal>
+        ensures { answer_in result ≡ some_if bad (refusal (rule_number self) place second) }
+    {
+        fault_if(bad, self as u8, place, second)
     }
 }

@@ -1,13 +1,12 @@
--- The digits of a number: none, one, and more. Assumes nothing.
-use Rattle.std.proofs.Common.{◌≡◌, refl, ap, ◌∙◌, ℕ, zero, suc, ◌+◌, ◌-◌, ◌/◌, ◌%◌, ◌≤◌, ◌<◌, List, [], ◌∷◌, ◌++◌, Bool, true, false, arith}
+-- The definitions' decimal is the library's. Assumes nothing.
+use Rattle.std.proofs.Common.{◌≡◌, refl, ap, ◌∙◌, sym, ℕ, zero, suc, ◌+◌, ◌/◌, ◌%◌, ◌≤◌, ◌<◌, ◌^◌, List, [], ◌∷◌, ◌++◌, Bool, true, false, arith}
+use Rattle.std.specs.Fmt as library
+use Rattle.std.proofs.lemmas.Fmt.{AppendsLastDigit, decimal_from_appends, length-decimal-le}
+use borrow.Author.Rules.{rules}
+use lib.ListN.{length}
 use Rattle.definitions.specs.Bounded.{◌below◌}
-use Rattle.definitions.specs.Program.{decimal_in}
+use Rattle.definitions.specs.Program.{decimal_in, decimal}
 use Rattle.definitions.proofs.Bounded.{true_of, false_of, below_iff}
-
-pub no_digits : (most n : ℕ) → most ≡ 0 → decimal_in most n ≡ []
-unfolding decimal_in
-no_digits zero n e = refl
-no_digits (suc m) n e = absurd (omega arith)
 
 choose : ℕ → ℕ → Bool → List ℕ
 choose most n b = elim b [ true ↦ (48 + n) ∷ [] | false ↦ decimal_in most (n / 10) ++ ((48 + n % 10) ∷ []) ]
@@ -16,14 +15,20 @@ digits_step : (most n : ℕ) → decimal_in (suc most) n ≡ choose most n (n be
 unfolding decimal_in choose
 digits_step most n = refl
 
-pub one_digit : (most n : ℕ) → (most ≡ 0 → ⊥) → n < 10 → decimal_in most n ≡ (48 + n % 10) ∷ []
+appends : AppendsLastDigit decimal_in
 unfolding choose
-one_digit zero n h l = absurd (h refl)
-one_digit (suc m) n h l = digits_step m n ∙ ap (choose m n) (true_of (n below 10) ((below_iff n 10).1 l)) ∙ ap (λ (k : ℕ). (48 + k) ∷ []) (omega arith)
+appends = record {
+  one = λ k n l. digits_step k n ∙ ap (choose k n) (true_of (n below 10) ((below_iff n 10).1 l));
+  more = λ k n l. digits_step k n ∙ ap (choose k n) (false_of (n below 10) (λ t. let q = (below_iff n 10).0 t in omega arith));
+}
 
-pub more_digits : (most n : ℕ) → (most ≡ 0 → ⊥) → 10 ≤ n → decimal_in most n ≡ decimal_in (most - 1) (n / 10) ++ ((48 + n % 10) ∷ [])
-unfolding choose
-more_digits zero n h l = absurd (h refl)
-more_digits (suc m) n h l =
-    digits_step m n ∙ ap (choose m n) (false_of (n below 10) (λ t. let q = (below_iff n 10).0 t in omega arith))
-    ∙ ap (λ (k : ℕ). decimal_in k (n / 10) ++ ((48 + n % 10) ∷ [])) (omega arith)
+pub decimal_as : (n : ℕ) → n < 2 ^ 64 → library.decimal n ≡ decimal n
+decimal_as n h = sym (decimal_from_appends decimal_in appends 20 n h (length-decimal-le 20 n (omega arith) (omega arith) h))
+
+pub decimal_short : (n : ℕ) → n < 2 ^ 64 → length (library.decimal n) ≤ 20
+decimal_short n h = length-decimal-le 20 n (omega arith) (omega arith) h
+
+pub decimal_20 : (n : ℕ) → n < 2 ^ 64 → length (decimal n) ≤ 20
+decimal_20 n h = let e = ap length (decimal_as n h) in let s = decimal_short n h in omega (arith, e)
+
+pub ruleset digits = (rules, decimal_as, decimal_short, decimal_20)

@@ -10,18 +10,18 @@ use text::Text;
 pub mod text;
 
 // A number and a space.
-#[tactic(auto, unfolding(definitions::specs::Program::bytes_of))]
+#[tactic(auto, using(crate::proofs::Digits::digits), unfolding(definitions::specs::Program::bytes_of))]
 fn push_spaced(t: &mut Text, n: u64)
     requires { length t.old + 21 ≤ 96 }
     ensures text { t.new ≡ t.old ++ decimal n ++ bytes_of " " }
     ensures size { length t.new ≤ length t.old + 21 }
 {
-    t.push_number(n, 20);
+    t.push_decimal(n);
     t.push(b' ');
 }
 
 // Three numbers with single spaces between, and a newline.
-#[tactic(auto, unfolding(definitions::specs::Program::three_numbers, definitions::specs::Program::bytes_of))]
+#[tactic(auto, using(crate::proofs::Digits::digits), unfolding(definitions::specs::Program::three_numbers, definitions::specs::Program::bytes_of))]
 fn push_three(t: &mut Text, a: u64, b: u64, c: u64)
     requires { length t.old + 63 ≤ 96 }
     ensures text { t.new ≡ t.old ++ three_numbers a b c }
@@ -29,7 +29,7 @@ fn push_three(t: &mut Text, a: u64, b: u64, c: u64)
 {
     push_spaced(t, a);
     push_spaced(t, b);
-    t.push_number(c, 20);
+    t.push_decimal(c);
     t.push(b'\n');
 }
 

@@ -1,10 +1,11 @@
-// A short text that is put together: bytes and numbers in decimal.
+// A short text that is put together: bytes and numbers in decimal. No `write!`: the library says what it wrote where it succeeds, and not that it
+// succeeds where there is room, and a line is written for every verdict.
 ghost use Rattle.std.specs.Prelude.{◌≡◌, ◌≤◌, ◌+◌, ◌++◌, ◌∷◌, [], length};
-ghost use Rattle.definitions.specs.Program.{decimal_in};
+ghost use Rattle.definitions.specs.Program.{decimal};
 
 use std::marker::Model;
 
-// At most 96 bytes, of which the first len are the text.
+// At most 96 bytes, of which the first len are the text: fixed memory, no heap.
 #[derive(Drop)]
 pub struct Text {
     bytes: [u8; 96],
@@ -54,18 +55,14 @@ impl Text {
         self.len = end;
     }
 
-    // A number in decimal, of at most so many digits.
-    pub fn push_number(&mut self, n: u64, most: usize)
-        requires { length self.old + most ≤ 96 }
-        ensures text { self.new ≡ self.old ++ decimal_in most n }
-        ensures size { length self.new ≤ length self.old + most }
+    // A number in decimal.
+    #[tactic(auto, using(crate::proofs::Digits::digits))]
+    pub fn push_decimal(&mut self, n: u64)
+        requires { length self.old + length (decimal n) ≤ 96 }
+        ensures text { self.new ≡ self.old ++ decimal n }
+        ensures size { length self.new ≤ length self.old + 20 }
     {
-        if most == 0 {
-            return;
-        }
-        if n >= 10 {
-            self.push_number(n / 10, most - 1);
-        }
-        self.push(b'0' + (n % 10) as u8);
+        let mut buffer = itoa::Buffer::new();
+        self.push_all(buffer.format(n).as_bytes());
     }
 }

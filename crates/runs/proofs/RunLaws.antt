@@ -1,63 +1,95 @@
 -- The tests of a run, a move stored with its answer, and the moves that numbers are. Assumes nothing.
-use mathlib.Core.Path.{◌≡◌, sym, ap, subst, ◌∙◌}
+use mathlib.Core.Path.{◌≡◌, refl, sym, ap, ◌∙◌}
 use mathlib.Core.Bool.{not, ◌||◌}
-use mathlib.Core.List.{List}
-use mathlib.Core.Option.{Option, none, some}
-use Prim.Native.Nat.{ℕ, ◌/◌, ◌<◌}
+use mathlib.Core.List.{List, []}
+use mathlib.Core.Option.{Option}
+use Prim.Native.Nat.{ℕ, zero, suc, ◌+◌, ◌*◌, ◌/◌, ◌<◌}
 use native.Mathlib.Omega.{arith}
 use borrow.Author.Rules.{rules}
 use lib.Dec.{eqb}
-use lib.ListN.{length, get_or, set}
-use Rattle.std.specs.Prelude.{Result, Ok, Err}
+use lib.ListN.{length, get_or, set, drop, length-map}
+use Rattle.std.specs.Prelude.{map}
+use Rattle.std.specs.Simd.{first_chunks}
+use Rattle.std.proofs.lemmas.List.{get_or-take, get_or-drop, get_or-map, ext_get_or}
+use Rattle.definitions.specs.Slots.{word}
+use Rattle.state.specs.declared.moves.Move as code
+use Rattle.state.specs.Moves.{move_of, move_in}
 use Rattle.definitions.specs.Bounded.{◌or◌, ◌isnt◌}
-use Rattle.definitions.specs.Answer as paper
-use Rattle.definitions.specs.Calls.{moves_refusal}
+use Rattle.definitions.specs.Answer.{Refusal}
+use Rattle.definitions.specs.Image.{model_of}
+use Rattle.definitions.specs.Moves.{Move, act}
+use Rattle.definitions.specs.Calls.{moves_refusal, outcome_number, outcome_words}
 use Rattle.definitions.proofs.Bounded.{or_is, length-tabulate, get_d_tabulate}
-use Rattle.refusals.specs.declared.Refusal.{Refusal}
-use Rattle.refusals.specs.Answers.{refusal_in}
-use Rattle.lookups.specs.Ready.{PlacesOf, Ready}
-use Rattle.reduction.proofs.StepLaws.{unrefused_read, unrefused_ready}
-use Rattle.runs.specs.Begins.{move_at, moves_of, Begins}
-use Rattle.runs.proofs.Fold.{no_move, begun_answer, refused_words, refused_answers, moves_start, end_words, end_answers}
+use Rattle.runs.specs.Moves.{move_at, moves_of, moves_in, five_in}
+use Rattle.runs.proofs.Fold.{no_move}
 
--- ---- the tests before a first move
+-- the tests before a first move, as the code writes them
+pub tests : (image words : List ℕ) (moves answers : ℕ) (o : Option Refusal)
+    → o ≡ moves_refusal image words (not (eqb (length words) 9112) || not (eqb answers moves))
+    → o ≡ moves_refusal image words (length words isnt 9112 or answers isnt moves)
+unfolding ◌isnt◌
+tests image words moves answers o e = e ∙ ap (moves_refusal image words) (or_is (not (eqb (length words) 9112)) (not (eqb answers moves)))
 
-module _ (image words : List ℕ) (moves answers : ℕ) where
-  tests : (o : Option paper.Refusal) → o ≡ moves_refusal image words (not (eqb (length words) 9112) || not (eqb answers moves))
-      → o ≡ moves_refusal image words (length words isnt 9112 or answers isnt moves)
-  unfolding ◌isnt◌
-  tests o e = e ∙ ap (moves_refusal image words) (or_is (not (eqb (length words) 9112)) (not (eqb answers moves)))
+-- a move as it is made, t, and as it is listed, v: what it leaves, and its answer stored
+module _ (image st : List ℕ) (t v : Move) (e : t ≡ v) where
+  pub made_words : (w : List ℕ) → w ≡ outcome_words st (act (model_of image) st t) → w ≡ outcome_words st (act (model_of image) st v)
+  made_words w d = d ∙ ap (λ (m : Move). outcome_words st (act (model_of image) st m)) e
 
-  pub begin_refused : (x : Refusal) → some (refusal_in x) ≡ moves_refusal image words (not (eqb (length words) 9112) || not (eqb answers moves))
-      → Begins image words moves answers (Err x)
-  begin_refused x e = record { answer = tests (some (refusal_in x)) e; ready = λ p q. absurd (let z : ◌≡◌ {A = ℕ} 0 1 = cc in omega arith) }
+  pub stored : (xs : List ℕ) (i n : ℕ) → n ≡ outcome_number (act (model_of image) st t) → set xs i n ≡ set xs i (outcome_number (act (model_of image) st v))
+  stored xs i n d = ap (set xs i) (d ∙ ap (λ (m : Move). outcome_number (act (model_of image) st m)) e)
 
-  pub begin_made : (places : ℕ) → none ≡ moves_refusal image words (not (eqb (length words) 9112) || not (eqb answers moves))
-      → PlacesOf image places → Begins image words moves answers (Ok places)
-  begin_made places e p = record {
-    answer = tests none e;
-    ready = λ k q. subst (λ (x : ℕ). Ready image x words) (let z : places ≡ k = cc in z)
-        (unrefused_ready image words (not (eqb (length words) 9112) || not (eqb answers moves)) (sym e) places p);
-  }
-
-pub ruleset begins = (rules, begin_refused, begin_made, unrefused_read)
-
--- the answer of a move, stored
-pub stored : (xs : List ℕ) (i n m : ℕ) → n ≡ m → set xs i n ≡ set xs i m
-stored xs i n m e = ap (set xs i) e
+pub ruleset stores = (rules, made_words, stored)
 
 -- ---- the moves that numbers are
 
-pub moves_count : (numbers : List ℕ) → length (moves_of numbers) ≡ length numbers / 5
-unfolding moves_of
-moves_count numbers = length-tabulate (length numbers / 5) (move_at numbers)
+length-chunks : (k : ℕ) (xs : List ℕ) → length (first_chunks 5 k xs) ≡ k
+length-chunks zero xs = refl
+length-chunks (suc k) xs = ap (λ (n : ℕ). suc n) (length-chunks k (drop 5 xs))
 
-pub numbers_move : (numbers : List ℕ) (i : ℕ) → i < length numbers / 5 → get_or (moves_of numbers) i no_move ≡ move_at numbers i
-unfolding moves_of
-numbers_move numbers i h = get_d_tabulate (length numbers / 5) (move_at numbers) no_move i h
+-- number j of the i-th five
+chunk-word : (k : ℕ) (xs : List ℕ) (i j : ℕ) → i < k → j < 5 → get_or (get_or (first_chunks 5 k xs) i []) j 0 ≡ word xs (5 * i + j)
+chunk-word zero xs i j h l = absurd (omega arith)
+chunk-word (suc k) xs zero j h l = get_or-take 5 xs j 0 l ∙ ap (word xs) (let z : j ≡ 5 * 0 + j = omega arith in z)
+chunk-word (suc k) xs (suc i) j h l =
+    chunk-word k (drop 5 xs) i j (omega arith) l ∙ get_or-drop 5 xs (5 * i + j) 0
+    ∙ ap (word xs) (let z : 5 + (5 * i + j) ≡ 5 * suc i + j = omega arith in z)
 
-pub numbers_begin : (image words numbers : List ℕ) (answers : ℕ) (r : Result ℕ Refusal) → Begins image words (length numbers / 5) answers r
-    → Begins image words (length (moves_of numbers)) answers r
-numbers_begin image words numbers answers r b = subst (λ (n : ℕ). Begins image words n answers r) (sym (moves_count numbers)) b
+-- a move that is in no list
+none-listed : code.Move
+none-listed = record { kind = 0; boxno = 0; thread = 0; boxno2 = 0; thread2 = 0 }
 
-pub ruleset numbers = (rules, numbers_begin, moves_count, numbers_move, begun_answer, refused_words, refused_answers, moves_start, end_words, end_answers)
+module _ (numbers : List ℕ) where
+  abbrev pub fives : List (List ℕ)
+  fives = first_chunks 5 (length numbers / 5) numbers
+
+  listed-count : length (moves_in (moves_of numbers)) ≡ length numbers / 5
+  unfolding moves_of
+  listed-count = length-map (moves_of numbers) move_in ∙ length-tabulate (length numbers / 5) (move_at numbers)
+
+  fives-count : length (map five_in fives) ≡ length numbers / 5
+  fives-count = length-map fives five_in ∙ length-chunks (length numbers / 5) numbers
+
+  each-five : (i : ℕ) → i < length numbers / 5 → five_in (get_or fives i []) ≡ move_in (move_at numbers i)
+  unfolding move_at
+  each-five i h =
+      let w = chunk-word (length numbers / 5) numbers i in
+      let first : 5 * i + 0 ≡ 5 * i = omega arith in
+      let a = w 0 h (omega arith) ∙ ap (word numbers) first in
+      let b = w 1 h (omega arith) in
+      let c = w 2 h (omega arith) in
+      let d = w 3 h (omega arith) in
+      let e = w 4 h (omega arith) in
+      λ j. move_of (a j) (b j) (c j) (d j) (e j)
+
+  pub numbers_moves : map five_in fives ≡ moves_in (moves_of numbers)
+  unfolding moves_of
+  numbers_moves =
+      ext_get_or no_move (map five_in fives) (moves_in (moves_of numbers)) (fives-count ∙ sym listed-count)
+      (λ i h.
+      let l : i < length numbers / 5 = rw fives-count at h in
+      get_or-map five_in fives i [] no_move (omega (arith, l, length-chunks (length numbers / 5) numbers))
+      ∙ each-five i l
+      ∙ sym (get_or-map move_in (moves_of numbers) i none-listed no_move (omega (arith, l, length-tabulate (length numbers / 5) (move_at numbers)))
+      ∙ ap move_in (get_d_tabulate (length numbers / 5) (move_at numbers) none-listed i l)))
+
+pub ruleset numbers = (rules, numbers_moves)

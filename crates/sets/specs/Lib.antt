@@ -1,3 +1,5 @@
+pub mod Each
 pub mod Lowest
 pub mod Ascending
 pub mod Names
+pub mod Options

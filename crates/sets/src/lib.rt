@@ -1,8 +1,10 @@
 #![tactic(auto)]
-// Sets of names: a u64 has name n where its binary digit n is 1. No call asks anything of its arguments.
+// Sets of names: a u64 has name n where its binary digit n is 1. No call but `union_of` asks anything of its arguments.
+// A digit is read and set by its number, and a name by its NameNo: a wrapper over each is shorter than one function for both.
 ghost use Rattle.std.specs.Prelude.{◌≡◌, ℕ, ◌<◌, MatchOption};
 ghost use Rattle.definitions.specs.Bounded.{◌and◌, ◌or◌, ◌is◌};
 ghost use Rattle.definitions.specs.Sets as names;
+ghost use Rattle.sets.specs.Each.{TakesMembers, UnionOfEach};
 ghost use Rattle.sets.specs.Lowest.{lowest_of, WithoutLowest};
 
 // The paper's "name's number". A held name, a number with a stamp, is another type.
@@ -109,4 +111,17 @@ impl Iterator for Ascending {
         self.0 = without_lowest(self.0);
         Some(n)
     }
+}
+
+// The union of what f gives at each member of s.
+#[tactic(auto, using(crate::proofs::Each::unions))]
+pub fn union_of<F: Fn(NameNo) -> u64>(s: u64, f: F) -> u64
+    requires { TakesMembers (F.pre f) s }
+    ensures { UnionOfEach (F.post f) s result }
+{
+    let mut v: u64 = 0;
+    for n in Ascending(s) {
+        v = union(v, f(n));
+    }
+    v
 }

@@ -7,7 +7,6 @@ use mathlib.Core.Option.{none}
 use Prim.Native.Nat.{ℕ, ◌+◌, ◌^◌, ◌≤◌, ◌<◌}
 use native.Mathlib.Nat.{le_antisymm}
 use native.Mathlib.Numerals.{add-one}
-use native.Mathlib.Omega.{arith}
 use borrow.Author.Rules.{rules}
 use lib.Dec.{T}
 use lib.ListN.{get_or}
@@ -19,13 +18,17 @@ use Rattle.definitions.specs.Clauses.{clause4, clause5, clause6}
 use Rattle.definitions.proofs.Bounded.{and_iff, or_iff, all_iff, implies_iff, isnt_iff, true_of, of_true, false_of, not-false, same_test}
 use Rattle.definitions.proofs.Sets.{and-true, and_assoc, has-none, for_each_iff, for_some_iff, within_iff, within_trans, meets_iff, meets_comm}
 use Rattle.definitions.proofs.Clauses.{sets, clause4_iff, clause5_iff, clause6_iff}
+use Rattle.sets.specs.declared.NameNo.{NameNo}
 use Rattle.sets.specs.Ascending.{LowestOf}
+use Rattle.sets.specs.Each.{UnionOfEach}
+use Rattle.sets.proofs.Each.{some_left}
 use Rattle.sets.proofs.Walk.{Left, left_start, left_turn, split_each, none_each}
 use Rattle.clauses.proofs.Members.{UnionOf, left_62, names_shown, names_both}
-use Rattle.clauses.proofs.Rows.{Rows, rows_start, rows_turn, rows_end, rows_size}
-use Rattle.links.specs.Types.{Types, TypeTable}
+use Rattle.links.specs.Types.{Types}
 use Rattle.sharing.specs.declared.Gathered.{Gathered}
-use Rattle.sharing.specs.Shared.{Least, Most, Joined, sent_in, all_sent_in, sent_by_other, sent_by_others, shared_in, all_shared_in, shared_by_other, shared_by_others, shared_at, shared_on, may_send, Sends, GatheredOf, NothingGathered}
+use Rattle.sharing.specs.declared.BoxSets.{BoxSets}
+use Rattle.sharing.specs.Shared.{Least, Most, Joined, sent_in, all_sent_in, sent_by_other, sent_by_others, shared_in, all_shared_in, shared_by_other, shared_by_others, shared_at, shared_on, may_send, Sends, SetsOf, TypeTable, no_sets, GatheredOf, NothingGathered}
+use Rattle.sharing.proofs.Rows.{Rows, rows_start, rows_turn, rows_end}
 
 -- ---- one union
 
@@ -79,9 +82,6 @@ module _ (e : Estimate) (x k c w : ℕ) (b : Bool) (y : ℕ) (eb : b ≡ meets x
 
 -- ---- each name of a set
 
-some-left : (left n t : ℕ) → LowestOf left n t → left ≡ 0 → ⊥
-some-left left n t d z = omega (arith, d.some_left)
-
 -- what is gathered, and what is left of s, ask together what w₀ and s ask
 pub record Gathering (s : ℕ) (p : ℕ → ℕ → Bool) (w₀ left w : ℕ) : Type 0 where
   pub there : Left s left
@@ -94,25 +94,30 @@ module _ (s : ℕ) (p : ℕ → ℕ → Bool) (w₀ : ℕ) where
   module _ (left w : ℕ) (g : Gathering s p w₀ left w) where
     pub gathering_turn : (n t v : ℕ) → LowestOf left n t → Joined v w (p n) → Gathering s p w₀ t v
     gathering_turn n t v d j = record {
-      there = left_turn s left t g.there (some-left left n t d) d.others;
+      there = left_turn s left t g.there (some_left left n t d) d.others;
       same = λ q. ap (λ (x : Bool). x and for_each t (λ i. p i q)) (j.same q) ∙ and_assoc (within w q) (p n q) (for_each t (λ i. p i q))
-          ∙ ap (λ (x : Bool). within w q and x) (sym (split_each (λ i. p i q) left t n g.there.fit (some-left left n t d) d.lowest d.others)) ∙ g.same q;
+          ∙ ap (λ (x : Bool). within w q and x) (sym (split_each (λ i. p i q) left t n g.there.fit (some_left left n t d) d.lowest d.others)) ∙ g.same q;
     }
 
     none_left : left ≡ 0 → (q : ℕ) → within w q ≡ (within w₀ q and for_each s (λ j. p j q))
     none_left z q = sym (and-true (within w q)) ∙ ap (λ (x : Bool). within w q and x) (sym (none_each (λ j. p j q) left z)) ∙ g.same q
 
--- all that box k may send on the names of s
-pub sent_in_lem : (e : Estimate) (k v w u c : ℕ) → UnionOf v w u → u ≡ e.kap k c → Joined v w (sent_in e k c)
-unfolding sent_in
-sent_in_lem e k v w u c = joined_union v w u (e.kap k c)
-
-module _ (e : Estimate) (k s : ℕ) where
-  pub sent_end : (left w : ℕ) → Gathering s (sent_in e k) 0 left w → left ≡ 0 → Least w (all_sent_in e k s)
-  unfolding all_sent_in ◌and◌
-  sent_end left w g z = record {
-    same = λ q. none_left s (sent_in e k) 0 left w g z q ∙ ap (λ (x : Bool). x and all_sent_in e k s q) (within_none q);
-  }
+-- all that box k may send on the names of s is within a set exactly when what it may send on each is
+pub sent_union : (e : Estimate) (k s w : ℕ) (post : NameNo → ℕ → Type 0) → UnionOfEach post s w → ((n : NameNo) (r : ℕ) → post n r → r ≡ e.kap k n.0)
+    → Least w (all_sent_in e k s)
+unfolding all_sent_in sent_in
+sent_union e k s w post u each = record {
+  same = λ q.
+      same_test (within w q) (for_each s (λ c. within (e.kap k c) q))
+      (λ t. (for_each_iff s (λ c. within (e.kap k c) q)).1 (λ c l h. (within_iff (e.kap k c) q).1
+      (λ m z i. (within_iff w q).0 t m z (of_true (at m ∙ true_of (for_some s (λ n. has (e.kap k n) m)) ((for_some_iff s (λ n. has (e.kap k n) m)).1 (c, l, h, i)))))))
+      (λ t. (within_iff w q).1 (λ m z i.
+      let c = (for_some_iff s (λ n. has (e.kap k n) m)).0 (of_true (sym (at m) ∙ true_of (has w m) i)) in
+      (within_iff (e.kap k c.0) q).0 ((for_each_iff s (λ n. within (e.kap k n) q)).0 t c.0 c.1 c.2) m z c.3));
+}
+  where
+    at : (m : ℕ) → has w m ≡ for_some s (λ n. has (e.kap k n) m)
+    at = u.members (e.kap k) each
 
 -- what each name of s asks of box k
 module _ (e : Estimate) (x k s w₀ left w : ℕ) (g : Gathering s (shared_in e x k) w₀ left w) where
@@ -159,7 +164,8 @@ module _ (e : Estimate) (x k w : ℕ) where
         (λ u. absurd (not-false (sym (t.same x) ∙ sym er ∙ f) ((for_some_iff (e.shown k) (λ c. meets x (e.eps k c))).1 (c, l, h, u))))))));
   }
 
-pub types_at : (e : Estimate) (boxes k v : ℕ) (t : List ℕ) → TypeTable e boxes t → k < boxes → v ≡ get_or t k 0 → Types e k (e.shown k) v
+pub types_at : (e : Estimate) (boxes k : ℕ) (v : BoxSets) (t : List BoxSets) → TypeTable e boxes t → k < boxes → v ≡ get_or t k no_sets
+    → Types e k (e.shown k) v.types
 types_at e boxes k v t d h ev = rw ev (d.each k h)
 
 -- what the boxes below k ask
@@ -188,28 +194,30 @@ shared_end e boxes b x = through_all (shared_by_other e b x) boxes
 
 module _ (image : List ℕ) (boxes : ℕ) where
   -- what a box may send on its shown names stands in the table of them
-  pub sends_at : (t : List ℕ) (k s v : ℕ) → Sends image boxes t → k < boxes → s ≡ (estimate_of image).shown k → v ≡ get_or t k 0
-      → Least v (all_sent_in (estimate_of image) k s)
+  pub sends_at : (t : List BoxSets) (k s : ℕ) (v : BoxSets) → Sends image boxes t → k < boxes → s ≡ (estimate_of image).shown k → v ≡ get_or t k no_sets
+      → Least v.sends (all_sent_in (estimate_of image) k s)
   sends_at t k s v d h es ev = rw (es, ev) (d.each k h)
 
-abbrev pub SentOf : List ℕ → ℕ → ℕ → Type 0
-SentOf image k w = Least w (all_sent_in (estimate_of image) k ((estimate_of image).shown k))
+pub sets_as : (image : List ℕ) (k s : ℕ) (x : BoxSets) → Least x.sends (all_sent_in (estimate_of image) k s) → Types (estimate_of image) k s x.types
+    → s ≡ (estimate_of image).shown k → SetsOf image k x
+sets_as image k s x a b es = record { sends = rw es at a; types = rw es at b }
 
-pub sent_as : (image : List ℕ) (k s w : ℕ) → Least w (all_sent_in (estimate_of image) k s) → s ≡ (estimate_of image).shown k → SentOf image k w
-sent_as image k s w a es = rw es at a
+module _ (image : List ℕ) (boxes k : ℕ) (t : List BoxSets) (f : Rows no_sets (SetsOf image) k t) (h : boxes ≤ k) where
+  pub sends_end : Sends image boxes t
+  sends_end = record { size = f.size; each = λ i l. (rows_end no_sets (SetsOf image) boxes k t f h i l).sends }
 
-pub sends_end : (image : List ℕ) (boxes k : ℕ) (t : List ℕ) → Rows (SentOf image) k t → boxes ≤ k → Sends image boxes t
-sends_end image boxes k t f h = record { size = f.size; each = rows_end (SentOf image) boxes k t f h }
+  pub types_end : TypeTable (estimate_of image) boxes t
+  types_end = record { size = f.size; each = λ i l. (rows_end no_sets (SetsOf image) boxes k t f h i l).types }
 
 -- ---- all that other boxes may send
 
-pub sent_in_other : (image : List ℕ) (boxes b k w v u : ℕ) (t : List ℕ) → (k ≡ b → ⊥) → Sends image boxes t → k < boxes → u ≡ get_or t k 0 → UnionOf v w u
-    → Joined v w (sent_by_other (estimate_of image) b k)
+pub sent_in_other : (image : List ℕ) (boxes b k w v : ℕ) (u : BoxSets) (t : List BoxSets) → (k ≡ b → ⊥) → Sends image boxes t → k < boxes
+    → u ≡ get_or t k no_sets → UnionOf v w u.sends → Joined v w (sent_by_other (estimate_of image) b k)
 unfolding sent_by_other
 sent_in_other image boxes b k w v u t f d h eu j =
     let e = estimate_of image in
     joined_if (k isnt b) (all_sent_in e k (e.shown k)) v w (isnt_yes k b f)
-    (record { same = λ q. within_union v w u j q ∙ ap (λ (z : Bool). within w q and z) ((sends_at image boxes t k (e.shown k) u d h refl eu).same q) })
+    (record { same = λ q. within_union v w u.sends j q ∙ ap (λ (z : Bool). within w q and z) ((sends_at image boxes t k (e.shown k) u d h refl eu).same q) })
 
 pub sent_out_own : (e : Estimate) (b k w : ℕ) → k ≡ b → Joined w w (sent_by_other e b k)
 unfolding sent_by_other
@@ -326,10 +334,10 @@ module _ (e : Estimate) (b s : ℕ) where
         → Meeting e b s t v
     unfolding may_send
     meeting-turn n t v u d j eu = record {
-      there = left_turn s left t g.there (some-left left n t d) d.others;
+      there = left_turn s left t g.there (some_left left n t d) d.others;
       same = λ q. ap (λ (y : Bool). y and may_send e b t q) (within_both v w u q j ∙ ap (λ (y : ℕ). within q w and within q y) eu)
           ∙ and_assoc (within q w) (within q (e.kap b n)) (may_send e b t q)
-          ∙ ap (λ (y : Bool). within q w and y) (sym (split_each (λ a. within q (e.kap b a)) left t n g.there.fit (some-left left n t d) d.lowest d.others)) ∙ g.same q;
+          ∙ ap (λ (y : Bool). within q w and y) (sym (split_each (λ a. within q (e.kap b a)) left t n g.there.fit (some_left left n t d) d.lowest d.others)) ∙ g.same q;
     }
 
     pub meeting_end : left ≡ 0 → Most w (may_send e b s)
@@ -390,6 +398,8 @@ module _ (e : Estimate) (boxes b : ℕ) (g : Gathered) (h : GatheredOf e boxes b
       → GatheredOf e boxes b (record { out = g.out; most = g.most; on = g.on; all = g.all; types = x; asks = w })
   with_asks x w m = record { most = h.most; all = h.all; asks = m }
 
-pub ruleset gathers = (rules, left_62, gathering_start, sent_end, names_end, shared_end, others_end, rows_start, rows_turn, sent_as, sends_end, meeting_end)
+pub ruleset gathers = (rules, left_62, gathering_start, sent_union, names_end, shared_end, others_end, meeting_end)
+
+pub ruleset tables = (rules, names_shown, sets_as, rows_start, rows_turn, sends_end, types_end)
 
 pub ruleset gathered = (rules, names_shown, sends_at, shown_in_lem, shown_out_lem, types_at, nothing_gathered, with_most, with_all, with_asks, names_both, asks_as)

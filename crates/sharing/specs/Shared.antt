@@ -3,7 +3,9 @@ use Rattle.std.specs.Prelude.{◌≡◌, Bool, List, ℕ, ◌<◌, length, get_o
 use Rattle.definitions.specs.Bounded.{◌and◌, ◌implies◌, ◌isnt◌, all_below}
 use Rattle.definitions.specs.Sets.{has, for_each, within, meets}
 use Rattle.definitions.specs.Estimate.{Estimate, estimate_of}
+use Rattle.links.specs.Types.{Types}
 use Rattle.sharing.specs.declared.Gathered.{Gathered}
+use Rattle.sharing.specs.declared.BoxSets.{BoxSets}
 
 -- w is the least set that passes a test: a set passes exactly when w is within it
 pub record Least (w : ℕ) (p : ℕ → Bool) : Type 0 where
@@ -16,6 +18,10 @@ pub record Most (w : ℕ) (p : ℕ → Bool) : Type 0 where
 -- v is w joined with the least set that passes a test
 pub record Joined (v w : ℕ) (p : ℕ → Bool) : Type 0 where
   pub same : (q : ℕ) → within v q ≡ (within w q and p q)
+
+-- the sets of a box that sends nothing and has no types
+abbrev pub no_sets : BoxSets
+no_sets = record { sends = 0; types = 0 }
 
 module _ (e : Estimate) where
   -- what box k may send on its name c is in q; and so on each name of s
@@ -57,10 +63,20 @@ module _ (e : Estimate) where
   unfoldable pub may_send : ℕ → ℕ → ℕ → Bool
   may_send b s q = for_each s (λ a. within q (e.kap b a))
 
+-- the sets of one box
+pub record SetsOf (image : List ℕ) (k : ℕ) (x : BoxSets) : Type 0 where
+  pub sends : Least x.sends (all_sent_in (estimate_of image) k ((estimate_of image).shown k))
+  pub types : Types (estimate_of image) k ((estimate_of image).shown k) x.types
+
 -- a table of all that each box may send on its shown names
-pub record Sends (image : List ℕ) (boxes : ℕ) (t : List ℕ) : Type 0 where
+pub record Sends (image : List ℕ) (boxes : ℕ) (t : List BoxSets) : Type 0 where
   pub size : length t ≡ 8
-  pub each : (k : ℕ) → k < boxes → Least (get_or t k 0) (all_sent_in (estimate_of image) k ((estimate_of image).shown k))
+  pub each : (k : ℕ) → k < boxes → Least (get_or t k no_sets).sends (all_sent_in (estimate_of image) k ((estimate_of image).shown k))
+
+-- a table of the union of each box's types on its shown names
+pub record TypeTable (e : Estimate) (boxes : ℕ) (t : List BoxSets) : Type 0 where
+  pub size : length t ≡ 8
+  pub each : (k : ℕ) → k < boxes → Types e k (e.shown k) (get_or t k no_sets).types
 
 -- what clauses 4, 5 and 6 ask, for the sets that it is gathered for
 pub record GatheredOf (e : Estimate) (boxes b : ℕ) (g : Gathered) : Type 0 where

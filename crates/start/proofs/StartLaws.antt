@@ -36,7 +36,7 @@ use Rattle.sets.proofs.Members.{members-none, members-some, members-first, lengt
 use Rattle.records.specs.Places.{SitesAt}
 use Rattle.records.proofs.PlaceLaws.{site-at, site-count}
 use Rattle.layouts.specs.declared.Layout.{Layout}
-use Rattle.layouts.specs.LayoutOf.{LayoutOf}
+use Rattle.layouts.specs.LayoutOf.{nowhere, LayoutOf}
 use Rattle.model.proofs.Models.{unrefused_room, unrefused_sites}
 use Rattle.state.proofs.Parts.{first_words, back_first, lent-site, back-site}
 use Rattle.start.specs.NamesOnly.{TypeOfNames, SiteOfNames}
@@ -140,17 +140,11 @@ module _ (x : List ℕ) (e : x ≡ zeros 10) where
 
 -- what an image that is not refused says of a box
 module _ (image : List ℕ) (layout : Layout) (read : read_model image ≡ none) (h : LayoutOf image layout) (b : ℕ) (q : b < layout.boxes) where
-  pub box_room : b < 8
-  box_room = unrefused_room image layout read h b q
+  pub box_scaled : Fits w64 (b * 32)
+  box_scaled = record { fits = omega (arith, unrefused_room image layout read h b q) }
 
-  pub box_scaled : Fits w64 (b * 8)
-  box_scaled = record { fits = omega (arith, box_room) }
-
-  pub box_sites : SitesAt image b (get_or layout.at b 0) (get_or layout.sites b 0)
-  box_sites = unrefused_sites image layout read h b q
-
-  pub count_fits : Fits w32 (get_or layout.sites b 0)
-  count_fits = record { fits = omega (arith, box_sites.few) }
+  pub count_fits : Fits w32 (get_or layout.each b nowhere).sites
+  count_fits = record { fits = omega (arith, (unrefused_sites image layout read h b q).few) }
 
 -- box b has n sites, in block k: the counts are written, and the first i sites
 pub record SitesWritten (image : List ℕ) (b k n i : ℕ) (r : List ℕ) : Type 0 where
@@ -185,9 +179,9 @@ module _ (image : List ℕ) (b k n i : ℕ) (r : List ℕ) (w : SitesWritten ima
         ∙ filled_past 10 16 (site_words (box_in image b)) (each_site (box_in image b)) i 3 (0 ∷ 1 ∷ n ∷ []) refl (zeros 976) i
         (omega (arith, w.there.few)) (le_refl i)
 
-    module _ (s : paper.Site) (e : s ≡ site_record (block_of image k) i) where
+    module _ (block : List ℕ) (q : block ≡ block_of image k) (s : paper.Site) (e : s ≡ site_record block i) where
       same-site : s ≡ paper.site_at (box_in image b) i
-      same-site = e ∙ site-at image b k n w.there i l
+      same-site = e ∙ ap (λ (y : List ℕ). site_record y i) q ∙ site-at image b k n w.there i l
 
       pub site_names : read_model image ≡ none → SiteOfNames s
       site_names read =
@@ -201,12 +195,12 @@ module _ (image : List ℕ) (b k n i : ℕ) (r : List ℕ) (w : SitesWritten ima
 
       pub sites-turn : (y : List ℕ) → y ≡ start_site s
           → SitesWritten image b k n (i + 1) (take (3 + 10 * i) r ++ (y ++ drop (3 + 10 * i + 10 - (3 + 10 * i)) (drop (3 + 10 * i) r)))
-      sites-turn y q = record {
+      sites-turn y g = record {
         there = w.there;
         upto = omega arith;
         same =
-            back-site r y i (ap length q ∙ start-site-length s)
-            ∙ ap₂ (λ (a c : List ℕ). put_site a i c) w.same (q ∙ ap start_site same-site ∙ sym (site_words_lem (box_in image b) i))
+            back-site r y i (ap length g ∙ start-site-length s)
+            ∙ ap₂ (λ (a c : List ℕ). put_site a i c) w.same (g ∙ ap start_site same-site ∙ sym (site_words_lem (box_in image b) i))
             ∙ filled_next 10 16 (site_words (box_in image b)) (each_site (box_in image b)) i 3 (0 ∷ 1 ∷ n ∷ []) refl (zeros 976)
             (omega (arith, w.there.few));
       }
@@ -290,15 +284,15 @@ module _ (image words : List ℕ) where
   unfolding calls.start
   start_kept r e = ap (λ (o : Option _). calls.written o (start_state (model_of image)) words) e
 
-  pub start_written : (st : List ℕ) → none ≡ (calls.start image words).answer → st ≡ start_state (model_of image) → st ≡ (calls.start image words).words
+  pub start_written : (st i : List ℕ) → none ≡ (calls.start image words).answer → i ≡ image → st ≡ start_state (model_of i) → st ≡ (calls.start image words).words
   unfolding calls.start
-  start_written st e q = q ∙ ap (λ (o : Option _). calls.written o (start_state (model_of image)) words) e
+  start_written st i e z q = q ∙ ap (λ (x : List ℕ). start_state (model_of x)) z ∙ ap (λ (o : Option _). calls.written o (start_state (model_of image)) words) e
 
 pub ruleset names = (names_in, names_start, names_60, names_turn, names_end)
 
 pub ruleset sites = (site-first, site-second, site-room, site_rest, site-is)
 
-pub ruleset records = (box_scaled, box_room, box_sites, count_fits, sites-start, site_31, site-clear, site_names, sites-turn, sites_end)
+pub ruleset records = (box_scaled, unrefused_room, unrefused_sites, count_fits, sites-start, site_31, site-clear, site_names, sites-turn, sites_end)
 
 pub ruleset states = (records_start, record_start, record_room, record_clear, records_turn, records_end)
 

@@ -1,21 +1,19 @@
 #![tactic(auto)]
 // Starting a model: every word of the lent state is written, or a refusal given and nothing written.
+// Bounds of indices and counts stand in the clauses: a type for each bound would be taken apart at every use.
 ghost use Rattle.std.specs.Prelude.{◌≡◌, ◌<◌, length};
-ghost use Rattle.std.proofs.Math.Option.{none};
 ghost use Rattle.definitions.specs.Limits.{type_limit};
 ghost use Rattle.definitions.specs.Slots.{zeros};
 ghost use Rattle.definitions.specs.Model.{box_at};
 ghost use Rattle.definitions.specs.Image.{model_of};
-ghost use Rattle.definitions.specs.ReadModel.{read_model};
 ghost use Rattle.definitions.specs.Record.{site_width, record_length, state_length};
 ghost use Rattle.definitions.specs.Start.{type_words, free_held, start_site, start_record, start_state};
 ghost use Rattle.definitions.specs.Calls as calls;
 ghost use Rattle.refusals.specs.Answers.{answer_in};
 ghost use Rattle.records.specs.Records.{site_in};
-ghost use Rattle.layouts.specs.LayoutOf.{LayoutOf};
 ghost use Rattle.start.specs.NamesOnly.{TypeOfNames, SiteOfNames};
 
-use layouts::Layout;
+use model::ReadModel;
 use records::Site;
 use refusals::{Refusal, Rule};
 use sets::Ascending;
@@ -46,35 +44,35 @@ fn write_site(words: &mut [u32], s: Site)
 
 // The record of box b, into words that are zero: one thread, which stands at line 0, and the sites.
 #[tactic(auto, using(crate::proofs::StartLaws::records))]
-fn start_record(model: &[u8], layout: Layout, b: usize, r: &mut [u32; 1139])
-    requires model { read_model model.now ≡ none }
-    requires layout { LayoutOf model.now layout }
-    requires there { b < layout.boxes }
+fn start_record(m: &ReadModel<'_>, b: usize, r: &mut [u32; 1139])
+    requires there { b < m.now.layout.boxes }
     requires clear { r.old ≡ zeros record_length }
-    ensures { r.new ≡ start_record (box_at (model_of model.now) b) }
+    ensures { r.new ≡ start_record (box_at (model_of m.now.image.now) b) }
 {
-    let count = layout.sites[b];
+    let place = m.layout.each[b];
+    let block = records::inside::block(m.image, place.at);
+    let count = place.sites;
     r[1] = 1;
     r[2] = count as u32;
     for i in 0..count {
         let from = 3 + 10 * i;
-        let site = records::inside::site(model, layout.at[b], i);
+        let site = records::inside::site(block, i);
         write_site(&mut r[from..from + 10], site);
     }
 }
 
+// The state is a slice, as C lends it; its length is a clause.
+
 // The whole state: the record of each box of the model, and zeros for each box that the model lacks.
 #[tactic(auto, using(crate::proofs::StartLaws::states))]
-fn write(model: &[u8], layout: Layout, state: &mut [u32])
-    requires model { read_model model.now ≡ none }
-    requires layout { LayoutOf model.now layout }
+fn write(m: &ReadModel<'_>, state: &mut [u32])
     requires long { length state.old ≡ state_length }
-    ensures { state.new ≡ start_state (model_of model.now) }
+    ensures { state.new ≡ start_state (model_of m.now.image.now) }
 {
     state.fill(0);
-    for b in 0..layout.boxes {
+    for b in 0..m.layout.boxes {
         let (_, words) = state.split_at_mut(1139 * b);
-        start_record(model, layout, b, state::first_record(words));
+        start_record(m, b, state::first_record(words));
     }
 }
 
@@ -84,8 +82,8 @@ pub fn start(model: &[u8], state: &mut [u32]) -> Result<(), Refusal>
     ensures answer { answer_in result ≡ (calls.start model.now state.old).answer }
     ensures words { state.new ≡ (calls.start model.now state.old).words }
 {
-    let layout = model::read(model)?;
-    refusals::fault_if(state.len() != 9112, Rule::Room, 0, 0)?;
-    write(model, layout, state);
+    let m = model::read(model)?;
+    Rule::Room.fault_if(state.len() != 9112, 0, 0)?;
+    write(&m, state);
     Ok(())
 }

@@ -1,6 +1,8 @@
 -- The number of each kind of move. Assumes nothing.
-use Rattle.std.specs.Prelude.{ℕ}
+use Rattle.std.specs.Prelude.{◌≡◌, ℕ, Result, MatchResult}
+use Rattle.definitions.specs.Moves.{kind_of_move, unknown}
 use Rattle.state.specs.declared.kinds.Kind.{Kind}
+use Rattle.state.specs.declared.kinds.UnknownKind.{UnknownKind}
 use Rattle.state.specs.declared.kinds.Kind.TheVariants.{Drop, Spread, New, Copy, Expose, Hide, Unhide, Intra, Inter}
 
 abbrev pub kind_number : Kind → ℕ
@@ -13,3 +15,7 @@ kind_number Hide = 6
 kind_number Unhide = 7
 kind_number Intra = 8
 kind_number Inter = 9
+
+-- the kind of a number, if it is one
+abbrev pub KindOf : ℕ → Result Kind UnknownKind → Type 0
+KindOf n r = MatchResult r (λ k. kind_number k ≡ n) (λ e. kind_of_move n ≡ unknown)

@@ -1,5 +1,6 @@
 #![tactic(auto, using(crate::proofs::Stores::stores))]
 // Edits of a box record, each an edit of the definitions.
+// Bounds of indices and counts stand in the clauses: a type for each bound would be taken apart at every use.
 ghost use Rattle.std.specs.Prelude.{◌≡◌, ◌+◌, ◌<◌, ◌≤◌};
 ghost use Rattle.definitions.specs.Limits.{name_limit, slot_limit};
 ghost use Rattle.definitions.specs.Slots.{part, put};

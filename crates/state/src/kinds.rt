@@ -1,7 +1,5 @@
 // The kinds of moves.
-ghost use Rattle.std.specs.Prelude.{◌≡◌, MatchOption};
-ghost use Rattle.definitions.specs.Moves.{kind_of_move, unknown};
-ghost use Rattle.state.specs.Kinds.{kind_number};
+ghost use Rattle.state.specs.Kinds.{KindOf};
 
 // The nine kinds, by their numbers.
 #[derive(Clone, Copy, Debug, PartialEq, Eq)]
@@ -17,23 +15,28 @@ pub enum Kind {
     Inter = 9,
 }
 
-impl Kind {
-    // The kind of a number, if it is one.
+// A number that is no kind's.
+#[derive(Clone, Copy, Debug, PartialEq, Eq)]
+pub struct UnknownKind;
+
+impl TryFrom<u32> for Kind {
+    type Error = UnknownKind;
+
+    ghost try_from_gives = { KindOf };
+
     #[tactic(auto, using(crate::proofs::Others::kind_of_other))]
-    pub fn of(number: u32) -> Option<Kind>
-        ensures { MatchOption result (kind_of_move number ≡ unknown) (λ kind. kind_number kind ≡ number) }
-    {
+    fn try_from(number: u32) -> Result<Kind, UnknownKind> {
         match number {
-            1 => Some(Kind::Drop),
-            2 => Some(Kind::Spread),
-            3 => Some(Kind::New),
-            4 => Some(Kind::Copy),
-            5 => Some(Kind::Expose),
-            6 => Some(Kind::Hide),
-            7 => Some(Kind::Unhide),
-            8 => Some(Kind::Intra),
-            9 => Some(Kind::Inter),
-            _ => None,
+            1 => Ok(Kind::Drop),
+            2 => Ok(Kind::Spread),
+            3 => Ok(Kind::New),
+            4 => Ok(Kind::Copy),
+            5 => Ok(Kind::Expose),
+            6 => Ok(Kind::Hide),
+            7 => Ok(Kind::Unhide),
+            8 => Ok(Kind::Intra),
+            9 => Ok(Kind::Inter),
+            _ => Err(UnknownKind),
         }
     }
 }

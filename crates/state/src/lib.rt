@@ -1,5 +1,6 @@
 #![tactic(auto, using(crate::proofs::Records::words))]
 // Held names, and the box records of a state: their words, read where they stand. A box record is an array of its 1,139 words.
+// Bounds of indices and counts stand in the clauses: a type for each bound would be taken apart at every use.
 ghost use Rattle.std.specs.Prelude.{◌≡◌, ◌+◌, ◌*◌, ◌<◌, ◌≤◌, ◌++◌, length, take, drop};
 ghost use Rattle.std.specs.Borrow.{sem, Lends, Array, u32};
 ghost use Rattle.definitions.specs.Bounded.{◌below◌, ◌upto◌};
@@ -10,8 +11,9 @@ use sets::NameNo;
 
 pub mod edits;
 pub mod kinds;
+pub mod moves;
 
-// The paper's "held name": a name's number with a stamp, and 0 for none. A name's number is another type.
+// The paper's "held name": a name's number with a stamp, and 0 for none, as the lent words have it. A name's number is another type.
 #[derive(Clone, Copy, Debug, PartialEq, Eq)]
 pub struct Held(pub u32);
 
@@ -112,6 +114,7 @@ pub fn subject(r: &[u32; 1139], i: usize) -> Held
     Held(r[3 + 10 * i])
 }
 
+// A word of the record, which may be any number in a state that is lent.
 pub fn flag(r: &[u32; 1139], i: usize) -> u32
     requires { i < slot_limit }
     ensures { result ≡ records.flag (records.site r.now i) }

@@ -29,9 +29,9 @@ use Rattle.box_runs.specs.Runs.{TreesFit}
 use Rattle.box_reach.specs.Reach.{HandedDownEach}
 use Rattle.box_reach.proofs.ReachLaws.{bound_above_lem, handed-bound}
 use Rattle.layouts.specs.declared.Layout.{Layout}
-use Rattle.layouts.specs.LayoutOf.{LayoutOf}
+use Rattle.layouts.specs.LayoutOf.{nowhere, LayoutOf}
 use Rattle.model.proofs.Models.{unrefused_room, unrefused_lines}
-use Rattle.held_limits.specs.declared.Limits.{Limits}
+use Rattle.held_limits.specs.declared.Limit.{Limit}
 use Rattle.held_limits.specs.Limits.{LimitsOf, last_fits, StampsFit, LimitsFor}
 use Rattle.box_records.specs.Rules.{clear_between, SubjectsOf, AboveEach, StandBelow, NamesAbove, DecidesRecord}
 use Rattle.box_records.proofs.WordLaws.{between_iff, slots_each}
@@ -50,7 +50,7 @@ module _ (image : List ℕ) (l : Layout) (e : read_model image ≡ none) (h : La
   few_names = omega (arith, h.frame.names, (valid_image image e).names, ap length (model_kinds image), model_names image)
 
   -- the names of kind 0 or 3
-  pub subjects_of : (s : ℕ) → ((n : ℕ) → has s n ≡ (has l.free n or has l.exposed n)) → SubjectsOf (model_of image) s
+  pub subjects_of : (s : ℕ) → ((n : ℕ) → has s n ≡ (has l.kinds.free n or has l.kinds.exposed n)) → SubjectsOf (model_of image) s
   subjects_of s f = record {
     at = λ n q.
         f n ∙ ap₂ ◌or◌ (h.frame.free n q) (h.frame.exposed n q) ∙ and-or (n below name_count image) (kind_of_name (kinds_of image) n is 0) (kind_of_name (kinds_of image) n is 3)
@@ -59,44 +59,41 @@ module _ (image : List ℕ) (l : Layout) (e : read_model image ≡ none) (h : La
   }
 
   module _ (b : ℕ) (q : b < l.boxes) where
-    pub box_room : b < 8
-    box_room = unrefused_room image l e h b q
-
-    at_box_lem : LinesAt image b (get_or l.at b 0) (get_or l.lines b 0)
+    at_box_lem : LinesAt image b (get_or l.each b nowhere).at (get_or l.each b nowhere).lines
     at_box_lem = unrefused_lines image l e h b q
 
     in_model_lem : b < box_count (model_of image)
     in_model_lem = omega (arith, boxes_are)
 
-    trees : TreesFit image b (get_or l.lines b 0)
+    trees : TreesFit image b (get_or l.each b nowhere).lines
     trees = record {
-      fits = λ i k. ((read_iff image).0 e).model.trees b in_model_lem i (omega (arith, line-count image b (get_or l.at b 0) (get_or l.lines b 0) at_box_lem));
+      fits = λ i k. ((read_iff image).0 e).model.trees b in_model_lem i (omega (arith, line-count image b (get_or l.each b nowhere).at (get_or l.each b nowhere).lines at_box_lem));
     }
 
-    module _ (r up : List ℕ) (c : ℕ) (used : StandBelow r (get_or l.lines b 0) 16 c) where
-      pub used_lines : LinesThere image (get_or l.at b 0) c
+    module _ (r : List ℕ) (c : ℕ) (used : StandBelow r (get_or l.each b nowhere).lines 16 c) where
+      pub used_lines : LinesThere image (get_or l.each b nowhere).at c
       used_lines = record { few = omega (arith, used.few, at_box_lem.there.few); there = λ i k. at_box_lem.there.there i (omega (arith, used.few)) }
 
-      module _ (d : HandedDownEach image (get_or l.at b 0) c up) where
-        above_each : AboveEach (box_at (model_of image) b) (get_or l.lines b 0) up r (threads r)
+      module _ (up : List ℕ) (d : HandedDownEach image (get_or l.each b nowhere).at c up) where
+        above_each : AboveEach (box_at (model_of image) b) (get_or l.each b nowhere).lines up r (threads r)
         above_each = record {
           each = λ t _ k. record {
-            count = line-count image b (get_or l.at b 0) (get_or l.lines b 0) at_box_lem;
-            at = λ q. bound_above_lem image b (get_or l.at b 0) (get_or l.lines b 0) at_box_lem trees c used.few up d (line (thread r t)) (omega (arith, used.each t k q)) (omega (arith, used.few, used.each t k q));
+            count = line-count image b (get_or l.each b nowhere).at (get_or l.each b nowhere).lines at_box_lem;
+            at = λ q. bound_above_lem image b (get_or l.each b nowhere).at (get_or l.each b nowhere).lines at_box_lem trees c used.few up d (line (thread r t)) (omega (arith, used.each t k q)) (omega (arith, used.few, used.each t k q));
           };
         }
 
         -- what the lines hand down is bound by a line, and so listed
-        pub names_above : NamesAbove (get_or l.lines b 0) up
+        pub names_above : NamesAbove (get_or l.each b nowhere).lines up
         names_above = record {
           few = at_box_lem.there.few;
           names = λ i k. record {
             below = λ n s t.
                 let small : i < 124 = omega (arith, at_box_lem.there.few) in
-                let x = handed-bound image (get_or l.at b 0) c i n (of_true (sym ((d.at i small).at n s) ∙ true_of (has (get_or up i 0) n) t)) in
-                let there : x.0 < get_or l.lines b 0 = omega (arith, x.1, used.few) in
-                let counted : x.0 < line_count (box_at (model_of image) b) = omega (arith, there, line-count image b (get_or l.at b 0) (get_or l.lines b 0) at_box_lem) in
-                let binds_it = subst (λ (y : Line). T (binds y n)) (line-at image b (get_or l.at b 0) (get_or l.lines b 0) at_box_lem x.0 there) x.2 in
+                let x = handed-bound image (get_or l.each b nowhere).at c i n (of_true (sym ((d.at i small).at n s) ∙ true_of (has (get_or up i 0) n) t)) in
+                let there : x.0 < (get_or l.each b nowhere).lines = omega (arith, x.1, used.few) in
+                let counted : x.0 < line_count (box_at (model_of image) b) = omega (arith, there, line-count image b (get_or l.each b nowhere).at (get_or l.each b nowhere).lines at_box_lem) in
+                let binds_it = subst (λ (y : Line). T (binds y n)) (line-at image b (get_or l.each b nowhere).at (get_or l.each b nowhere).lines at_box_lem x.0 there) x.2 in
                 omega (arith, (valid_image image e).names, (((valid_image image e).box b in_model_lem).line x.0 counted).binds_listed n binds_it);
           };
         }
@@ -108,13 +105,13 @@ module _ (st : List ℕ) (b : ℕ) (r : List ℕ) (z : r ≡ record_of st b) whe
   unfolding last_fits last_stamps
   record_stamp boxes f h = subst (λ (x : List ℕ). stamp x ≤ stamp_limit) (sym z) ((upto_iff (stamp (record_of st b)) stamp_limit).0 ((all_iff boxes (last_fits st)).0 (of_true f.stamps) b h))
 
-  pub record_is : (image : List ℕ) (l : Layout) (limits : Limits) (up : List ℕ) (c s : ℕ) (t : Bool) → read_model image ≡ none → LayoutOf image l → b < l.boxes
-      → LimitsOf (model_of image) (last_stamps st) limits → ((n : ℕ) → has s n ≡ (has l.free n or has l.exposed n))
-      → StandBelow r (get_or l.lines b 0) 16 c → HandedDownEach image (get_or l.at b 0) c up → DecidesRecord limits up (get_or l.lines b 0) s r t
+  pub record_is : (image : List ℕ) (l : Layout) (limits : List Limit) (up : List ℕ) (c s : ℕ) (t : Bool) → read_model image ≡ none → LayoutOf image l → b < l.boxes
+      → LimitsOf (model_of image) (last_stamps st) limits → ((n : ℕ) → has s n ≡ (has l.kinds.free n or has l.kinds.exposed n))
+      → StandBelow r (get_or l.each b nowhere).lines 16 c → HandedDownEach image (get_or l.each b nowhere).at c up → DecidesRecord limits up (get_or l.each b nowhere).lines s r t
       → t ≡ record_fits_at (model_of image) st b
   unfolding record_fits_at
   record_is image l limits up c s t e h q k f u d w =
-      w.decides (model_of image) (last_stamps st) (box_at (model_of image) b) k (above_each image l e h b q r up c u d) (subjects_of image l e h s f)
+      w.decides (model_of image) (last_stamps st) (box_at (model_of image) b) k (above_each image l e h b q r c u up d) (subjects_of image l e h s f)
       ∙ ap (record_fits (model_of image) (last_stamps st) (box_at (model_of image) b)) z
 
 -- ---- the records of the boxes that the model lacks
@@ -195,7 +192,7 @@ pub stamps_fit : (image : List ℕ) (l : Layout) (st : List ℕ) (t : Bool) → 
     → t ≡ all_below l.boxes (last_fits st) → t ≡ true → StampsFit st l.boxes
 stamps_fit image l st t e h long q z = record { long = long; most = few_boxes image l e h; stamps = sym q ∙ z }
 
-pub limits_of : (image : List ℕ) (l : Layout) (st : List ℕ) (limits : Limits) → LimitsFor l st limits → LayoutOf image l → LimitsOf (model_of image) (last_stamps st) limits
+pub limits_of : (image : List ℕ) (l : Layout) (st : List ℕ) (limits : List Limit) → LimitsFor l st limits → LayoutOf image l → LimitsOf (model_of image) (last_stamps st) limits
 limits_of image l st limits k h = k.are image h
 
-pub ruleset state_rules = (missing-start, missing_end, missing_stop, missing-turn, few_boxes, few_names, stamps_fit, box_room, used_lines, names_above, record_stamp, record_is, passing_start, passing_turn, passing_stop, passing_end, state_length_lem, state_stamps, state_misfit, state_clear, limits_of)
+pub ruleset state_rules = (missing-start, missing_end, missing_stop, missing-turn, few_boxes, few_names, stamps_fit, unrefused_room, used_lines, names_above, record_stamp, record_is, passing_start, passing_turn, passing_stop, passing_end, state_length_lem, state_stamps, state_misfit, state_clear, limits_of)

@@ -1,40 +1,44 @@
 #![tactic(auto, using(crate::proofs::StateLaws::state_rules))]
 // The state rules: whether words are a state, in order, of a model that has been read.
+// Bounds of indices and counts stand in the clauses: a type for each bound would be taken apart at every use.
 ghost use Rattle.std.specs.Prelude.{◌≡◌, ◌*◌, ◌≤◌, length};
-ghost use Rattle.std.proofs.Math.Option.{none};
 ghost use Rattle.definitions.specs.Bounded.{all_below};
 ghost use Rattle.definitions.specs.Record as words;
 ghost use Rattle.definitions.specs.Image.{model_of};
-ghost use Rattle.definitions.specs.ReadModel.{read_model};
 ghost use Rattle.definitions.specs.StateRules.{state_fits};
-ghost use Rattle.layouts.specs.LayoutOf.{LayoutOf};
 ghost use Rattle.held_limits.specs.Limits.{LimitsOf, StampsFit};
 ghost use Rattle.box_records.specs.Rules.{clear_between};
 ghost use Rattle.state_rules.specs.Records.{record_fits_at};
 
-use held_limits::Limits;
-use layouts::Layout;
+use box_records::Rules;
+use held_limits::{Limit, NO_LIMIT};
+use model::ReadModel;
+use records::Lines;
 
 // The records of the model's boxes.
-fn records_fit(model: &[u8], layout: Layout, limits: &Limits, state: &[u32]) -> bool
-    requires model { read_model model.now ≡ none }
-    requires layout { LayoutOf model.now layout }
-    requires stamps { StampsFit state.now layout.boxes }
-    requires limits { LimitsOf (model_of model.now) (words.last_stamps state.now) limits.now }
-    ensures { result ≡ all_below layout.boxes (record_fits_at (model_of model.now) state.now) }
+fn records_fit(m: &ReadModel<'_>, limits: &[Limit; 64], state: &[u32]) -> bool
+    requires stamps { StampsFit state.now m.now.layout.boxes }
+    requires limits { LimitsOf (model_of m.now.image.now) (words.last_stamps state.now) limits.now }
+    ensures { result ≡ all_below m.now.layout.boxes (record_fits_at (model_of m.now.image.now) state.now) }
 {
-    let subjects = sets::union(layout.free, layout.exposed);
+    let subjects = sets::union(m.layout.kinds.free, m.layout.kinds.exposed);
     let mut up = [0; 124];
-    for b in 0..layout.boxes {
-        let lines = layout.lines[b];
+    for b in 0..m.layout.boxes {
+        let place = m.layout.each[b];
         let r = state::record(state, b);
-        box_reach::above(
-            model,
-            layout.at[b],
-            box_records::lines_used(r, lines),
-            &mut up,
-        );
-        if !box_records::record_fits(limits, &up, lines, subjects, r) {
+        let used = Lines {
+            image: m.image,
+            k: place.at,
+            n: box_records::lines_used(r, place.lines),
+        };
+        box_reach::above(used, &mut up);
+        let rules = Rules {
+            limits,
+            subjects,
+            lines: place.lines,
+            up: &up,
+        };
+        if !box_records::record_fits(&rules, r) {
             return false;
         }
     }
@@ -56,21 +60,16 @@ fn missing_clear(state: &[u32], boxes: usize) -> bool
 }
 
 // The words, however many, obey the state rules of a model.
-pub fn fits(model: &[u8], layout: Layout, state: &[u32]) -> bool
-    requires model { read_model model.now ≡ none }
-    requires layout { LayoutOf model.now layout }
-    ensures { result ≡ state_fits (model_of model.now) state.now }
+pub fn fits(m: &ReadModel<'_>, state: &[u32]) -> bool
+    ensures { result ≡ state_fits (model_of m.now.image.now) state.now }
 {
     if state.len() != 9112 {
         return false;
     }
-    if !held_limits::stamps_fit(state, layout.boxes) {
+    if !held_limits::stamps_fit(state, m.layout.boxes) {
         return false;
     }
-    let mut limits = Limits {
-        low: [0; 64],
-        high: [0; 64],
-    };
-    held_limits::set_limits(&mut limits, layout, state);
-    records_fit(model, layout, &limits, state) && missing_clear(state, layout.boxes)
+    let mut limits = [NO_LIMIT; 64];
+    held_limits::set_limits(&mut limits, &m.layout, state);
+    records_fit(m, &limits, state) && missing_clear(state, m.layout.boxes)
 }

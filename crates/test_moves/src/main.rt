@@ -2,10 +2,12 @@
 // Makes lists of moves, each from a start, and writes a line for each move: its five numbers and its answer, then for each box its number,
 // its last stamp and its threads, each with its line and what it has bound; then the same for one run over the list, from a second start.
 // The lists for model K are those of the examples. The model limits.blk has one box, !new n.0: 16 threads and a copy; the last two stamps.
+// Bounds of indices and counts stand in the clauses: a type for each bound would be taken apart at every use.
 ghost use Rattle.std.specs.Prelude.{◌<◌};
 ghost use Rattle.definitions.specs.Limits.{slot_limit};
 
 use programs::{end_line, number, write};
+use reduction::Move;
 use refusals::Refusal;
 use sets::NameNo;
 use state::Held;
@@ -72,32 +74,29 @@ fn show_answer<R: Print>(rt: &R, answer: Result<(), Refusal>) {
     }
 }
 
-fn step<R: Print>(
-    rt: &R,
-    image: &[u8],
-    boxes: usize,
-    state: &mut [u32],
-    kind: u32,
-    b: u32,
-    t: u32,
-    c: u32,
-    u: u32,
-) {
-    let answer = reduction::step(image, state, kind, b, t, c, u);
+fn step<R: Print>(rt: &R, image: &[u8], boxes: usize, state: &mut [u32], m: Move) {
+    let answer = reduction::step(image, state, m);
     write(rt, b"move");
-    show_word(rt, kind);
-    show_word(rt, b);
-    show_word(rt, t);
-    show_word(rt, c);
-    show_word(rt, u);
+    show_word(rt, m.kind);
+    show_word(rt, m.boxno);
+    show_word(rt, m.thread);
+    show_word(rt, m.boxno2);
+    show_word(rt, m.thread2);
     show_answer(rt, answer);
     show_boxes(rt, state, boxes);
 }
 
 // Each move of a list of numbers, five a move, by a step call of its own.
 fn steps<R: Print>(rt: &R, image: &[u8], boxes: usize, state: &mut [u32], numbers: &[u32]) {
-    for m in numbers.as_chunks::<5>().0 {
-        step(rt, image, boxes, state, m[0], m[1], m[2], m[3], m[4]);
+    for n in numbers.as_chunks::<5>().0 {
+        let m = Move {
+            kind: n[0],
+            boxno: n[1],
+            thread: n[2],
+            boxno2: n[3],
+            thread2: n[4],
+        };
+        step(rt, image, boxes, state, m);
     }
 }
 
@@ -151,7 +150,7 @@ fn play<R: Print>(
     numbers: &[u32],
     answers: &mut [u8],
 ) {
-    let boxes = model::read(image).map_or(0, |l| l.boxes);
+    let boxes = model::read(image).map_or(0, |m| m.layout.boxes);
     begin(rt, image, boxes, state, stamp);
     steps(rt, image, boxes, state, numbers);
     begin(rt, image, boxes, state, stamp);

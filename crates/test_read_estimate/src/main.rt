@@ -13,66 +13,67 @@ fn last_set<R: Print>(rt: &R, s: u64) {
     end_line(rt);
 }
 
-fn rhos<R: Print>(rt: &R, image: &[u8], names: u8)
-    requires there { 512 ≤ length image.now }
-    requires few { names ≤ 60 }
-{
-    for n in 0..names {
-        write(rt, b"rho");
-        number(rt, n as u64);
-        last_set(rt, estimate::rho(image, NameNo(n)));
-    }
+// An estimate's image, and of how many names and boxes it is written.
+#[derive(Clone, Copy)]
+struct Shown<'a> {
+    image: &'a [u8],
+    names: u8,
+    boxes: usize,
+    ghost there: { 512 * (1 + 2 * boxes) ≤ length image.now },
+    ghost few: { names ≤ 60 },
+    ghost most: { boxes ≤ 8 },
 }
 
-fn epss<R: Print>(rt: &R, image: &[u8], names: u8, b: usize)
-    requires there { 512 * (3 + 2 * b) ≤ length image.now }
-    requires few { names ≤ 60 }
-    requires listed { b < 8 }
-{
-    for n in 0..names {
-        write(rt, b"eps");
+impl<'a> Shown<'a> {
+    fn rhos<R: Print>(&self, rt: &R) {
+        for n in 0..self.names {
+            write(rt, b"rho");
+            number(rt, n as u64);
+            last_set(rt, estimate::rho(self.image, NameNo(n)));
+        }
+    }
+
+    fn epss<R: Print>(&self, rt: &R, b: usize)
+        requires { b < self.now.boxes }
+    {
+        for n in 0..self.names {
+            write(rt, b"eps");
+            number(rt, b as u64);
+            number(rt, n as u64);
+            last_set(rt, estimate::eps(self.image, b, NameNo(n)));
+        }
+    }
+
+    // As epss: a closure for the set would have to carry what it asks of a name.
+    fn kaps<R: Print>(&self, rt: &R, b: usize)
+        requires { b < self.now.boxes }
+    {
+        for n in 0..self.names {
+            write(rt, b"kap");
+            number(rt, b as u64);
+            number(rt, n as u64);
+            last_set(rt, estimate::kap(self.image, b, NameNo(n)));
+        }
+    }
+
+    fn one_box<R: Print>(&self, rt: &R, b: usize)
+        requires { b < self.now.boxes }
+    {
+        write(rt, b"shown");
         number(rt, b as u64);
-        number(rt, n as u64);
-        last_set(rt, estimate::eps(image, b, NameNo(n)));
-    }
-}
-
-fn kaps<R: Print>(rt: &R, image: &[u8], names: u8, b: usize)
-    requires there { 512 * (3 + 2 * b) ≤ length image.now }
-    requires few { names ≤ 60 }
-    requires listed { b < 8 }
-{
-    for n in 0..names {
-        write(rt, b"kap");
+        last_set(rt, estimate::shown(self.image, b));
+        write(rt, b"hidden");
         number(rt, b as u64);
-        number(rt, n as u64);
-        last_set(rt, estimate::kap(image, b, NameNo(n)));
+        last_set(rt, estimate::hidden(self.image, b));
+        self.epss(rt, b);
+        self.kaps(rt, b);
     }
-}
 
-fn one_box<R: Print>(rt: &R, image: &[u8], names: u8, b: usize)
-    requires there { 512 * (3 + 2 * b) ≤ length image.now }
-    requires few { names ≤ 60 }
-    requires listed { b < 8 }
-{
-    write(rt, b"shown");
-    number(rt, b as u64);
-    last_set(rt, estimate::shown(image, b));
-    write(rt, b"hidden");
-    number(rt, b as u64);
-    last_set(rt, estimate::hidden(image, b));
-    epss(rt, image, names, b);
-    kaps(rt, image, names, b);
-}
-
-fn all<R: Print>(rt: &R, image: &[u8], names: u8, boxes: usize)
-    requires there { 512 * (1 + 2 * boxes) ≤ length image.now }
-    requires few { names ≤ 60 }
-    requires boxes { boxes ≤ 8 }
-{
-    rhos(rt, image, names);
-    for b in 0..boxes {
-        one_box(rt, image, names, b);
+    fn all<R: Print>(&self, rt: &R) {
+        self.rhos(rt);
+        for b in 0..self.boxes {
+            self.one_box(rt, b);
+        }
     }
 }
 
@@ -88,7 +89,13 @@ fn show<R: Print>(rt: &R, image: &[u8], names: usize, boxes: usize) {
     match estimate::read(image, names, boxes) {
         Ok(()) => {
             if names <= 60 && boxes <= 8 && 512 * (1 + 2 * boxes) <= image.len() {
-                all(rt, image, names as u8, boxes);
+                let names = names as u8;
+                let shown = Shown {
+                    image,
+                    names,
+                    boxes,
+                };
+                shown.all(rt);
             }
         }
         Err(r) => refused(rt, b"refused estimate", r.number, r.place, 0),
@@ -97,7 +104,7 @@ fn show<R: Print>(rt: &R, image: &[u8], names: usize, boxes: usize) {
 
 fn pair<R: Print>(rt: &R, model: &[u8], image: &[u8]) {
     match model::read(model) {
-        Ok(l) => show(rt, image, l.names, l.boxes),
+        Ok(m) => show(rt, image, m.layout.names, m.layout.boxes),
         Err(r) => refused(rt, b"refused model", r.number, r.place, r.second),
     }
 }

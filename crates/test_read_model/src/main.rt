@@ -1,12 +1,10 @@
 #![tactic(auto)]
 // Reads the model images of its folder and writes each: its names, boxes, sites and lines, or the line of its refusal.
-ghost use Rattle.std.specs.Prelude.{◌≡◌, ◌<◌};
-ghost use Rattle.std.proofs.Math.Option.{none};
-ghost use Rattle.definitions.specs.ReadModel.{read_model};
+// Bounds of indices and counts stand in the clauses: a type for each bound would be taken apart at every use.
+ghost use Rattle.std.specs.Prelude.{◌<◌};
 ghost use Rattle.records.specs.Places.{LinesAt, SitesAt};
-ghost use Rattle.layouts.specs.LayoutOf.{LayoutOf};
 
-use model::Layout;
+use model::ReadModel;
 use programs::{end_line, number, set, write};
 use records::{Line, Site};
 use sets::NameNo;
@@ -38,8 +36,9 @@ fn show_line<R: Print>(rt: &R, b: usize, i: usize, l: Line) {
 fn show_sites<R: Print>(rt: &R, image: &[u8], b: usize, k: usize, n: usize)
     requires { SitesAt image.now b k n }
 {
+    let block = records::inside::block(image, k);
     for i in 0..n {
-        show_site(rt, b, i, records::inside::site(image, k, i));
+        show_site(rt, b, i, records::inside::site(block, i));
     }
 }
 
@@ -52,56 +51,48 @@ fn show_lines<R: Print>(rt: &R, image: &[u8], b: usize, k: usize, n: usize)
 }
 
 #[tactic(auto, using(crate::proofs::Shown::shown))]
-fn show_box<R: Print>(rt: &R, image: &[u8], l: Layout, b: usize)
-    requires accepted { read_model image.now ≡ none }
-    requires layout { LayoutOf image.now l }
-    requires listed { b < l.boxes }
+fn show_box<R: Print>(rt: &R, m: &ReadModel<'_>, b: usize)
+    requires { b < m.now.layout.boxes }
 {
-    let (k, sites, lines) = (l.at[b], l.sites[b], l.lines[b]);
+    let place = m.layout.each[b];
     write(rt, b"box");
     number(rt, b as u64);
     write(rt, b" sites");
-    number(rt, sites as u64);
+    number(rt, place.sites as u64);
     write(rt, b" lines");
-    number(rt, lines as u64);
+    number(rt, place.lines as u64);
     end_line(rt);
-    show_sites(rt, image, b, k, sites);
-    show_lines(rt, image, b, k, lines);
+    show_sites(rt, m.image, b, place.at, place.sites);
+    show_lines(rt, m.image, b, place.at, place.lines);
 }
 
-fn show_boxes<R: Print>(rt: &R, image: &[u8], l: Layout)
-    requires accepted { read_model image.now ≡ none }
-    requires layout { LayoutOf image.now l }
-{
+fn show_boxes<R: Print>(rt: &R, m: &ReadModel<'_>) {
     write(rt, b"boxes");
-    number(rt, l.boxes as u64);
+    number(rt, m.layout.boxes as u64);
     end_line(rt);
-    for b in 0..l.boxes {
-        show_box(rt, image, l, b);
+    for b in 0..m.layout.boxes {
+        show_box(rt, m, b);
     }
 }
 
 #[tactic(auto, using(crate::proofs::Shown::shown))]
-fn show_names<R: Print>(rt: &R, image: &[u8], l: Layout)
-    requires accepted { read_model image.now ≡ none }
-    requires layout { LayoutOf image.now l }
-{
+fn show_names<R: Print>(rt: &R, m: &ReadModel<'_>) {
     write(rt, b"names");
-    number(rt, l.names as u64);
+    number(rt, m.layout.names as u64);
     end_line(rt);
-    for n in 0..l.names {
+    for n in 0..m.layout.names {
         write(rt, b"name");
         number(rt, n as u64);
-        number(rt, records::inside::kind(image, NameNo(n as u8)));
+        number(rt, records::inside::kind(m.image, NameNo(n as u8)));
         end_line(rt);
     }
 }
 
 fn show<R: Print>(rt: &R, image: &[u8]) {
     match model::read(image) {
-        Ok(l) => {
-            show_names(rt, image, l);
-            show_boxes(rt, image, l);
+        Ok(m) => {
+            show_names(rt, &m);
+            show_boxes(rt, &m);
         }
         Err(x) => {
             write(rt, b"refused model");

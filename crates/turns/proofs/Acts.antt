@@ -23,12 +23,14 @@ use Rattle.state.specs.declared.kinds.Kind as code
 use Rattle.state.specs.declared.kinds.Kind.TheVariants.{Drop, Spread, New, Copy, Expose, Hide, Unhide, Intra, Inter}
 use Rattle.state.specs.Kinds.{kind_number}
 use Rattle.state.proofs.Parts.{first_words, back_first}
+use Rattle.model.specs.declared.ReadModel.{ReadModel}
 use Rattle.lookups.specs.Ready.{BoxReady, Ready}
 use Rattle.lookups.specs.Inside.{inside_as, inside_outcome}
 use Rattle.lookups.proofs.Ready.{read_boxes}
 use Rattle.deciding.specs.declared.Blocked.{Blocked}
 use Rattle.deciding.proofs.Decided.{blocked_not}
-use Rattle.deciding.specs.Numbers.{blocked_number, move_of}
+use Rattle.deciding.specs.Numbers.{blocked_number}
+use Rattle.state.specs.Moves.{move_of}
 use Rattle.deciding.proofs.States.{IsInter, not-inter, record_ready}
 use Rattle.making.specs.Left.{IsMade}
 
@@ -44,29 +46,29 @@ pub split_back : (st front rest : List ℕ) (b : ℕ) (r : List ℕ) → front �
     → front ++ (r ++ drop 1139 rest) ≡ back b st r
 split_back st front rest b r e d = ap₂ (λ (p q : List ℕ). p ++ (r ++ drop 1139 q)) e d
 
-module _ {image : List ℕ} {places : ℕ} {st : List ℕ} (k : Ready image places st) where
-  fits : StateFits (model_of image) st
-  fits = (state_iff (model_of image) st).0 k.fits
+module _ {rm : ReadModel} {st : List ℕ} (k : Ready rm st) where
+  fits : StateFits (model_of rm.image.now) st
+  fits = (state_iff (model_of rm.image.now) st).0 k.fits
 
   -- a box of the model has its record in the state
-  module _ (b : ℕ) (h : b < box_count (model_of image)) where
-    listed : b < boxes_of image
-    listed = rw (← model_count image) h
+  module _ (b : ℕ) (h : b < box_count (model_of rm.image.now)) where
+    listed : b < boxes_of rm.image.now
+    listed = rw (← model_count rm.image.now) h
 
     eight : b < 8
-    eight = read_boxes image b k.read listed
+    eight = read_boxes rm.image.now b rm.read listed
 
-    ready : (r : List ℕ) → r ≡ record_of st b → BoxReady image places b r
-    ready r e = record_ready image places st k b (boxes_of image) refl listed r e
+    ready : (r : List ℕ) → r ≡ record_of st b → BoxReady rm b r
+    ready r e = record_ready rm st k b (omega (arith, listed, rm.of.frame.boxes)) r e
 
 -- ---- inter
 
-module _ {image : List ℕ} {places : ℕ} {st : List ℕ} (k : Ready image places st) (b t c u : ℕ) (m : IsMade (inter_act (model_of image) st b t c u)) where
-  all : InterActMade (model_of image) st b t c u m.left
-  all = inter_act_lem (model_of image) st b t c u m.left m.is
+module _ {rm : ReadModel} {st : List ℕ} (k : Ready rm st) (b t c u : ℕ) (m : IsMade (inter_act (model_of rm.image.now) st b t c u)) where
+  all : InterActMade (model_of rm.image.now) st b t c u m.left
+  all = inter_act_lem (model_of rm.image.now) st b t c u m.left m.is
 
-  both : InterMade (model_of image).kinds (box_at (model_of image) b) (record_of st b) (box_at (model_of image) c) (record_of st c) t u all.ends
-  both = inter-made (model_of image).kinds (box_at (model_of image) b) (record_of st b) (box_at (model_of image) c) (record_of st c) t u all.ends all.is_made
+  both : InterMade (model_of rm.image.now).kinds (box_at (model_of rm.image.now) b) (record_of st b) (box_at (model_of rm.image.now) c) (record_of st c) t u all.ends
+  both = inter-made (model_of rm.image.now).kinds (box_at (model_of rm.image.now) b) (record_of st b) (box_at (model_of rm.image.now) c) (record_of st c) t u all.ends all.is_made
 
   pub inter_box : b < 8
   inter_box = eight k b all.box
@@ -85,39 +87,39 @@ module _ {image : List ℕ} {places : ℕ} {st : List ℕ} (k : Ready image plac
 
   -- the output end, as it is read
   module _ (s : List ℕ) (e : s ≡ record_of st c) where
-    pub sent_ready : BoxReady image places c s
+    pub sent_ready : BoxReady rm c s
     sent_ready = ready k c all.box2 s e
 
     pub sent_live : u < threads s
     sent_live = rw e all.live2
 
-    pub sent_op : (thread_line (model_of image).kinds (box_at (model_of image) c) s u).op ≡ output
-    sent_op = ap (λ (y : List ℕ). (thread_line (model_of image).kinds (box_at (model_of image) c) y u).op) e ∙ both.op_is2
+    pub sent_op : (thread_line (model_of rm.image.now).kinds (box_at (model_of rm.image.now) c) s u).op ≡ output
+    sent_op = ap (λ (y : List ℕ). (thread_line (model_of rm.image.now).kinds (box_at (model_of rm.image.now) c) y u).op) e ∙ both.op_is2
 
   -- the input end, as it is lent
   module _ (r : List ℕ) (d : r ≡ record_of st b) where
-    pub first_ready : BoxReady image places b r
+    pub first_ready : BoxReady rm b r
     first_ready = ready k b all.box r d
 
     pub first_live : t < threads r
     first_live = rw d all.live
 
-    pub first_op : (thread_line (model_of image).kinds (box_at (model_of image) b) r t).op ≡ input
-    first_op = ap (λ (y : List ℕ). (thread_line (model_of image).kinds (box_at (model_of image) b) y t).op) d ∙ both.op_is
+    pub first_op : (thread_line (model_of rm.image.now).kinds (box_at (model_of rm.image.now) b) r t).op ≡ input
+    first_op = ap (λ (y : List ℕ). (thread_line (model_of rm.image.now).kinds (box_at (model_of rm.image.now) b) y t).op) d ∙ both.op_is
 
-    module _ (s : List ℕ) (e : s ≡ record_of st c) (v : ℕ) (f : v ≡ value2 (model_of image).kinds (box_at (model_of image) c) s u) (r1 st1 : List ℕ)
-        (g : r1 ≡ put_thread r t (onward_with (model_of image).kinds (box_at (model_of image) b) r t (thread_line (model_of image).kinds (box_at (model_of image) b) r t).name2 v)) (h : st1 ≡ back b st r1) where
-      value : v ≡ value2 (model_of image).kinds (box_at (model_of image) c) (record_of st c) u
-      value = f ∙ ap (λ (y : List ℕ). value2 (model_of image).kinds (box_at (model_of image) c) y u) e
+    module _ (s : List ℕ) (e : s ≡ record_of st c) (v : ℕ) (f : v ≡ value2 (model_of rm.image.now).kinds (box_at (model_of rm.image.now) c) s u) (r1 st1 : List ℕ)
+        (g : r1 ≡ put_thread r t (onward_with (model_of rm.image.now).kinds (box_at (model_of rm.image.now) b) r t (thread_line (model_of rm.image.now).kinds (box_at (model_of rm.image.now) b) r t).name2 v)) (h : st1 ≡ back b st r1) where
+      value : v ≡ value2 (model_of rm.image.now).kinds (box_at (model_of rm.image.now) c) (record_of st c) u
+      value = f ∙ ap (λ (y : List ℕ). value2 (model_of rm.image.now).kinds (box_at (model_of rm.image.now) c) y u) e
 
       input-is : r1 ≡ all.ends.input
       input-is =
-          g ∙ ap (λ (y : List ℕ). put_thread y t (onward_with (model_of image).kinds (box_at (model_of image) b) y t (thread_line (model_of image).kinds (box_at (model_of image) b) y t).name2 v)) d
-          ∙ ap (λ (w : ℕ). put_thread (record_of st b) t (onward_with (model_of image).kinds (box_at (model_of image) b) (record_of st b) t (thread_line (model_of image).kinds (box_at (model_of image) b) (record_of st b) t).name2 w)) value
+          g ∙ ap (λ (y : List ℕ). put_thread y t (onward_with (model_of rm.image.now).kinds (box_at (model_of rm.image.now) b) y t (thread_line (model_of rm.image.now).kinds (box_at (model_of rm.image.now) b) y t).name2 v)) d
+          ∙ ap (λ (w : ℕ). put_thread (record_of st b) t (onward_with (model_of rm.image.now).kinds (box_at (model_of rm.image.now) b) (record_of st b) t (thread_line (model_of rm.image.now).kinds (box_at (model_of rm.image.now) b) (record_of st b) t).name2 w)) value
           ∙ sym both.input_leaves
 
       sizes : (length all.ends.input ≡ 1139) × (length all.ends.output ≡ 1139)
-      sizes = inter-size (model_of image) (valid_image image k.read) st (fits k) b t c u all.ends all.box all.box2 all.live all.live2 all.is_made
+      sizes = inter-size (model_of rm.image.now) (valid_image rm.image.now rm.read) st (fits k) b t c u all.ends all.box all.box2 all.live all.live2 all.is_made
 
       long1 : length r1 ≡ 1139
       long1 = ap length input-is ∙ sizes.0
@@ -135,20 +137,20 @@ module _ {image : List ℕ} {places : ℕ} {st : List ℕ} (k : Ready image plac
       same = ap (λ (y : List ℕ). record_of y c) first ∙ put_record_other st inter_long b inter_box r1 long1 c inter_box2 (λ z. all.differ (sym z))
 
       module _ (s1 : List ℕ) (i : s1 ≡ record_of st1 c) where
-        pub second_ready : BoxReady image places c s1
+        pub second_ready : BoxReady rm c s1
         second_ready = ready k c all.box2 s1 (i ∙ same)
 
         pub second_live : u < threads s1
         second_live = rw (i ∙ same) all.live2
 
-        pub second_op : (thread_line (model_of image).kinds (box_at (model_of image) c) s1 u).op ≡ output
-        second_op = ap (λ (y : List ℕ). (thread_line (model_of image).kinds (box_at (model_of image) c) y u).op) (i ∙ same) ∙ both.op_is2
+        pub second_op : (thread_line (model_of rm.image.now).kinds (box_at (model_of rm.image.now) c) s1 u).op ≡ output
+        second_op = ap (λ (y : List ℕ). (thread_line (model_of rm.image.now).kinds (box_at (model_of rm.image.now) c) y u).op) (i ∙ same) ∙ both.op_is2
 
-        module _ (r2 st2 : List ℕ) (j : r2 ≡ put_thread s1 u (onward (model_of image).kinds (box_at (model_of image) c) s1 u)) (q : st2 ≡ back c st1 r2) where
+        module _ (r2 st2 : List ℕ) (j : r2 ≡ put_thread s1 u (onward (model_of rm.image.now).kinds (box_at (model_of rm.image.now) c) s1 u)) (q : st2 ≡ back c st1 r2) where
           output-is : r2 ≡ all.ends.output
-          output-is = j ∙ ap (λ (y : List ℕ). put_thread y u (onward (model_of image).kinds (box_at (model_of image) c) y u)) (i ∙ same) ∙ sym both.output_leaves
+          output-is = j ∙ ap (λ (y : List ℕ). put_thread y u (onward (model_of rm.image.now).kinds (box_at (model_of rm.image.now) c) y u)) (i ∙ same) ∙ sym both.output_leaves
 
-          pub inter_left : inter_act (model_of image) st b t c u ≡ made st2
+          pub inter_left : inter_act (model_of rm.image.now) st b t c u ≡ made st2
           inter_left =
               m.is ∙ ap made (all.leaves
               ∙ ap (λ (y : List ℕ). put_record (put_record st b y) c all.ends.output) (sym input-is)
@@ -158,26 +160,26 @@ module _ {image : List ℕ} {places : ℕ} {st : List ℕ} (k : Ready image plac
 
 -- ---- a move of each kind
 
-module _ {image : List ℕ} {places : ℕ} {st : List ℕ} (k : Ready image places st) (kind b t c u : ℕ) (m : IsMade (act (model_of image) st (move_of kind b t c u))) where
+module _ {rm : ReadModel} {st : List ℕ} (k : Ready rm st) (kind b t c u : ℕ) (m : IsMade (act (model_of rm.image.now) st (move_of kind b t c u))) where
   module _ (nine : kind ≡ 9) where
-    as_inter : act (model_of image) st (move_of kind b t c u) ≡ inter_act (model_of image) st b t c u
+    as_inter : act (model_of rm.image.now) st (move_of kind b t c u) ≡ inter_act (model_of rm.image.now) st b t c u
     unfolding act act_as kind_of_move
-    as_inter = ap (λ (n : ℕ). act_as (model_of image) st (kind_of_move n) (move_of kind b t c u)) nine
+    as_inter = ap (λ (n : ℕ). act_as (model_of rm.image.now) st (kind_of_move n) (move_of kind b t c u)) nine
 
-    pub make_inter : IsMade (inter_act (model_of image) st b t c u)
+    pub make_inter : IsMade (inter_act (model_of rm.image.now) st b t c u)
     make_inter = record { left = m.left; is = sym as_inter ∙ m.is }
 
-    pub make_inter_left : (w : List ℕ) → inter_act (model_of image) st b t c u ≡ made w → act (model_of image) st (move_of kind b t c u) ≡ made w
+    pub make_inter_left : (w : List ℕ) → inter_act (model_of rm.image.now) st b t c u ≡ made w → act (model_of rm.image.now) st (move_of kind b t c u) ≡ made w
     make_inter_left w e = as_inter ∙ e
 
   module _ (other : kind ≢ 9) where
     -- the move is one inside box b
     record InOneBox : Type 0 where
-      box : b < box_count (model_of image)
+      box : b < box_count (model_of rm.image.now)
       new : List ℕ
-      is_made : inside_outcome (model_of image).kinds (box_at (model_of image) b) (record_of st b) kind t u ≡ made new
-      size : (r : List ℕ) → inside_outcome (model_of image).kinds (box_at (model_of image) b) (record_of st b) kind t u ≡ made r → length r ≡ 1139
-      gives : (r : List ℕ) → inside_outcome (model_of image).kinds (box_at (model_of image) b) (record_of st b) kind t u ≡ made r → act (model_of image) st (move_of kind b t c u) ≡ made (put_record st b r)
+      is_made : inside_outcome (model_of rm.image.now).kinds (box_at (model_of rm.image.now) b) (record_of st b) kind t u ≡ made new
+      size : (r : List ℕ) → inside_outcome (model_of rm.image.now).kinds (box_at (model_of rm.image.now) b) (record_of st b) kind t u ≡ made r → length r ≡ 1139
+      gives : (r : List ℕ) → inside_outcome (model_of rm.image.now).kinds (box_at (model_of rm.image.now) b) (record_of st b) kind t u ≡ made r → act (model_of rm.image.now) st (move_of kind b t c u) ≡ made (put_record st b r)
 
     kept : InOneBox
     unfolding act act_as inside_act inside_outcome
@@ -185,22 +187,22 @@ module _ {image : List ℕ} {places : ℕ} {st : List ℕ} (k : Ready image plac
       where
         go : (q : Kind) → kind_of_move kind ≡ q → (IsInter q → ⊥) → InOneBox
         go (inside i) e f =
-            let a = inside_act_lem (model_of image) st i b t u m.left (ap (λ (z : Kind). act_as (model_of image) st z (move_of kind b t c u)) (sym e) ∙ m.is) in
+            let a = inside_act_lem (model_of rm.image.now) st i b t u m.left (ap (λ (z : Kind). act_as (model_of rm.image.now) st z (move_of kind b t c u)) (sym e) ∙ m.is) in
             record {
               box = a.box;
               new = a.new;
-              is_made = ap (λ (z : Kind). inside_as (model_of image).kinds (box_at (model_of image) b) (record_of st b) z t u) e ∙ a.is_made;
+              is_made = ap (λ (z : Kind). inside_as (model_of rm.image.now).kinds (box_at (model_of rm.image.now) b) (record_of st b) z t u) e ∙ a.is_made;
               size = λ r d.
-                  inside-size (model_of image) (valid_image image k.read) st (fits k) i b t u r a.box (ap (λ (z : Kind). inside_as (model_of image).kinds (box_at (model_of image) b) (record_of st b) z t u) (sym e) ∙ d);
-              gives = λ r d. ap (λ (z : Kind). act_as (model_of image) st z (move_of kind b t c u)) e ∙ needed a.box (ap (λ (z : Kind). inside_as (model_of image).kinds (box_at (model_of image) b) (record_of st b) z t u) (sym e) ∙ d);
+                  inside-size (model_of rm.image.now) (valid_image rm.image.now rm.read) st (fits k) i b t u r a.box (ap (λ (z : Kind). inside_as (model_of rm.image.now).kinds (box_at (model_of rm.image.now) b) (record_of st b) z t u) (sym e) ∙ d);
+              gives = λ r d. ap (λ (z : Kind). act_as (model_of rm.image.now) st z (move_of kind b t c u)) e ∙ needed a.box (ap (λ (z : Kind). inside_as (model_of rm.image.now).kinds (box_at (model_of rm.image.now) b) (record_of st b) z t u) (sym e) ∙ d);
             }
           where
-            needed : {r : List ℕ} → b < box_count (model_of image) → inside_move (model_of image).kinds (box_at (model_of image) b) (record_of st b) i t u ≡ made r → inside_act (model_of image) st i b t u ≡ made (put_record st b r)
+            needed : {r : List ℕ} → b < box_count (model_of rm.image.now) → inside_move (model_of rm.image.now).kinds (box_at (model_of rm.image.now) b) (record_of st b) i t u ≡ made r → inside_act (model_of rm.image.now) st i b t u ≡ made (put_record st b r)
             needed h d =
-                ap (λ (z : Bool). need z 12 (on_made (put_record st b) (inside_move (model_of image).kinds (box_at (model_of image) b) (record_of st b) i t u))) (true_of (b below box_count (model_of image)) ((below_iff b (box_count (model_of image))).1 h))
+                ap (λ (z : Bool). need z 12 (on_made (put_record st b) (inside_move (model_of rm.image.now).kinds (box_at (model_of rm.image.now) b) (record_of st b) i t u))) (true_of (b below box_count (model_of rm.image.now)) ((below_iff b (box_count (model_of rm.image.now))).1 h))
                 ∙ ap (on_made (put_record st b)) d
         go inter e f = absurd (f tt)
-        go unknown e f = absurd (refused-made (ap (λ (z : Kind). act_as (model_of image) st z (move_of kind b t c u)) (sym e) ∙ m.is))
+        go unknown e f = absurd (refused-made (ap (λ (z : Kind). act_as (model_of rm.image.now) st z (move_of kind b t c u)) (sym e) ∙ m.is))
 
     pub make_box : b < 8
     make_box = eight k b kept.box
@@ -209,17 +211,17 @@ module _ {image : List ℕ} {places : ℕ} {st : List ℕ} (k : Ready image plac
     make_room = omega (arith, make_box, (fits k).size)
 
     module _ (r : List ℕ) (d : r ≡ record_of st b) where
-      pub make_ready : BoxReady image places b r
+      pub make_ready : BoxReady rm b r
       make_ready = ready k b kept.box r d
 
-      pub make_inside : IsMade (inside_outcome (model_of image).kinds (box_at (model_of image) b) r kind t u)
-      make_inside = record { left = kept.new; is = ap (λ (y : List ℕ). inside_outcome (model_of image).kinds (box_at (model_of image) b) y kind t u) d ∙ kept.is_made }
+      pub make_inside : IsMade (inside_outcome (model_of rm.image.now).kinds (box_at (model_of rm.image.now) b) r kind t u)
+      make_inside = record { left = kept.new; is = ap (λ (y : List ℕ). inside_outcome (model_of rm.image.now).kinds (box_at (model_of rm.image.now) b) y kind t u) d ∙ kept.is_made }
 
-      pub make_left : (r1 w : List ℕ) → inside_outcome (model_of image).kinds (box_at (model_of image) b) r kind t u ≡ made r1 → w ≡ back b st r1
-          → act (model_of image) st (move_of kind b t c u) ≡ made w
+      pub make_left : (r1 w : List ℕ) → inside_outcome (model_of rm.image.now).kinds (box_at (model_of rm.image.now) b) r kind t u ≡ made r1 → w ≡ back b st r1
+          → act (model_of rm.image.now) st (move_of kind b t c u) ≡ made w
       make_left r1 w e h =
-          let q : inside_outcome (model_of image).kinds (box_at (model_of image) b) (record_of st b) kind t u ≡ made r1 =
-          ap (λ (y : List ℕ). inside_outcome (model_of image).kinds (box_at (model_of image) b) y kind t u) (sym d) ∙ e in
+          let q : inside_outcome (model_of rm.image.now).kinds (box_at (model_of rm.image.now) b) (record_of st b) kind t u ≡ made r1 =
+          ap (λ (y : List ℕ). inside_outcome (model_of rm.image.now).kinds (box_at (model_of rm.image.now) b) y kind t u) (sym d) ∙ e in
           kept.gives r1 q ∙ ap made (sym (h ∙ back_first st r1 b (kept.size r1 q)))
 
 -- a kind that is not inter has another number
@@ -241,28 +243,26 @@ pub never_zero : (image st : List ℕ) (v : Move) → act (model_of image) st v 
 unfolding met met_as meets ◌is◌ ◌and◌ ◌or◌
 never_zero image st v e = ((refused_iff (model_of image) st v 0).0 e).is_met
 
-module _ {image : List ℕ} {places : ℕ} {st : List ℕ} (k : Ready image places st) (v : Move) where
-  pub turn-made : 0 ≡ outcome_number (act (model_of image) st v) → IsMade (act (model_of image) st v)
-  turn-made e = go (act (model_of image) st v) refl
+module _ {rm : ReadModel} {st : List ℕ} (k : Ready rm st) (v : Move) where
+  pub turn-made : 0 ≡ outcome_number (act (model_of rm.image.now) st v) → IsMade (act (model_of rm.image.now) st v)
+  turn-made e = go (act (model_of rm.image.now) st v) refl
     where
-      go : (o : Outcome (List ℕ)) → act (model_of image) st v ≡ o → IsMade (act (model_of image) st v)
+      go : (o : Outcome (List ℕ)) → act (model_of rm.image.now) st v ≡ o → IsMade (act (model_of rm.image.now) st v)
       go (refused i) q =
           let y : i ≡ 0 = sym (ap outcome_number q) ∙ sym e in
-          absurd (never_zero image st v (q ∙ ap refused y))
+          absurd (never_zero rm.image.now st v (q ∙ ap refused y))
       go (made w) q = record { left = w; is = q }
 
-  module _ (w : List ℕ) (q : act (model_of image) st v ≡ made w) where
-    pub turn-zero : 0 ≡ outcome_number (act (model_of image) st v)
+  module _ (w : List ℕ) (q : act (model_of rm.image.now) st v ≡ made w) where
+    pub turn-zero : 0 ≡ outcome_number (act (model_of rm.image.now) st v)
     turn-zero = sym (ap outcome_number q)
 
-    pub turn_words : w ≡ outcome_words st (act (model_of image) st v)
+    pub turn_words : w ≡ outcome_words st (act (model_of rm.image.now) st v)
     turn_words = sym (ap (outcome_words st) q)
 
-    pub turn_keeps : Ready image places w
+    pub turn_keeps : Ready rm w
     turn_keeps = record {
-      read = k.read;
-      placed = k.placed;
-      fits = (state_iff (model_of image) w).1 (act_fits (model_of image) (valid_image image k.read) st (fits k) v w q);
+      fits = (state_iff (model_of rm.image.now) w).1 (act_fits (model_of rm.image.now) (valid_image rm.image.now rm.read) st (fits k) v w q);
     }
 
 -- a move that is refused leaves the words as they are

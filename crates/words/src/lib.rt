@@ -19,6 +19,7 @@ pub fn half(s: &[u8], at: usize) -> usize
     usize::from(u16::from_le_bytes([s[at], s[at + 1]]))
 }
 
+// Eight bytes by place: the compiler makes one load of them.
 #[tactic(auto, unfolding(definitions::specs::Words::word_at))]
 pub fn word(s: &[u8], at: usize) -> u64
     requires { at + 8 ≤ length s.now }

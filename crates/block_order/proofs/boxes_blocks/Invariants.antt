@@ -7,4 +7,4 @@ use Rattle.definitions.proofs.Loops.{Passed}
 use Rattle.block_order.proofs.boxes_blocks.Given as goal
 
 abbrev pub invariant-loop-b : goal.invariant-loop-b
-invariant-loop-b l = record { at : l.k ≡ sites_block l.image l.b; small : l.k ≤ 1 + 5 * l.b; passed : Passed l.boxes (box_fault l.image) l.b }
+invariant-loop-b l = record { at : l.k ≡ sites_block l.blocks.image.now l.b; small : l.k ≤ 1 + 5 * l.b; passed : Passed l.boxes (box_fault l.blocks.image.now) l.b }

@@ -3,4 +3,4 @@ use Rattle.box_reach.specs.Reach.{HandedDownEach}
 use Rattle.box_reach.proofs.above.Given as goal
 
 abbrev pub invariant-loop-i : goal.invariant-loop-i
-invariant-loop-i l = HandedDownEach l.image l.k l.i l.up
+invariant-loop-i l = HandedDownEach l.lines.image.now l.lines.k l.i l.up

@@ -3,4 +3,4 @@ use Rattle.box_reach.proofs.ReachLaws.{ReachRun}
 use Rattle.box_reach.proofs.box_reach.Given as goal
 
 abbrev pub invariant-loop-i : goal.invariant-loop-i
-invariant-loop-i l = ReachRun l.image l.b l.k l.n l.i l.seen l.up
+invariant-loop-i l = ReachRun l.lines.image.now l.b l.lines.k l.lines.n l.i l.seen l.up

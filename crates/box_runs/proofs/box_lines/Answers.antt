@@ -9,4 +9,4 @@ loop-i-init c = search runs
 pub loop-i-preserved : goal.loop-i-preserved
 loop-i-preserved c =
     line-turn _ _ _ _ _ _ _ _ _ _ _ c.loop-i.invariant c.requires.lines (omega arith)
-    c.line-l.ensures c.requires.kinds c.line_fits-fits.ensures c.in_ok-fault_if.ensures
+    c.line.ensures c.requires.kinds c.line_fits-fits.ensures c.in_ok-fault_if.ensures

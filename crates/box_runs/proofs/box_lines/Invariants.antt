@@ -5,4 +5,4 @@ use Rattle.box_runs.proofs.Runs.{RecordsFit}
 use Rattle.box_runs.proofs.box_lines.Given as goal
 
 abbrev pub invariant-loop-i : goal.invariant-loop-i
-invariant-loop-i l = RecordsFit 7 l.n (line_fit (model_of l.image)) l.b l.i
+invariant-loop-i l = RecordsFit 7 l.lines.n (line_fit (model_of l.lines.image.now)) l.b l.i

@@ -8,5 +8,5 @@ loop-i-init c = search runs
 
 pub loop-i-preserved : goal.loop-i-preserved
 loop-i-preserved c =
-    site-turn _ _ _ _ _ _ _ _ _ c.loop-i.invariant c.requires.sites (omega arith)
+    site-turn _ _ _ _ _ _ _ _ _ _ c.loop-i.invariant c.requires.sites (omega arith) c.block-block.ensures
     c.site-s.ensures c.requires.few c.requires.free c.site_fits.ensures _ c.in_ok-fault_if.ensures c.insert-seen.ensures

@@ -3,4 +3,4 @@ use Rattle.box_runs.proofs.Runs.{TreeRun}
 use Rattle.box_runs.proofs.box_tree.Given as goal
 
 abbrev pub invariant-loop-i : goal.invariant-loop-i
-invariant-loop-i l = TreeRun l.image l.b l.k l.n l.i l.seen
+invariant-loop-i l = TreeRun l.lines.image.now l.b l.lines.k l.lines.n l.i l.seen

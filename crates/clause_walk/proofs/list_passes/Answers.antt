@@ -3,5 +3,5 @@ use Rattle.sharing.proofs.Gather.{nothing_of}
 use Rattle.clause_walk.proofs.Shows.{list_start}
 use Rattle.clause_walk.proofs.list_passes.Goals as goal
 
-pub loop-m-init : goal.loop-m-init
-loop-m-init c = record { passed = list_start _ _ _ _ _ _; gathered = nothing_of _ _ _ _ c.nothing-g.ensures }
+pub loop-i-init : goal.loop-i-init
+loop-i-init c = record { passed = list_start _ _ _ _ _ _; gathered = nothing_of _ _ _ _ c.nothing-g.ensures }

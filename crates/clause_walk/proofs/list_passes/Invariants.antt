@@ -4,8 +4,8 @@ use Rattle.sharing.specs.Shared.{GatheredOf}
 use Rattle.clause_walk.proofs.Shows.{ListPassed}
 use Rattle.clause_walk.proofs.list_passes.Given as goal
 
-abbrev pub invariant-loop-m : goal.invariant-loop-m
-invariant-loop-m l = record {
-  passed : ListPassed l.model (estimate_of l.t.estimate.now) l.t.boxes l.b l.k l.listed l.m;
-  gathered : GatheredOf (estimate_of l.t.estimate.now) l.t.boxes l.b l.g;
+abbrev pub invariant-loop-i : goal.invariant-loop-i
+invariant-loop-i l = record {
+  passed : ListPassed l.model (estimate_of l.t.estimate.image.now) l.t.estimate.boxes l.b l.k l.listed l.i-index;
+  gathered : GatheredOf (estimate_of l.t.estimate.image.now) l.t.estimate.boxes l.b l.g;
 }

@@ -1,6 +1,6 @@
 -- `clause_walk::outputs_pass` meets its contract. Assumes nothing.
 use Rattle.sets.proofs.Walk.{each_start}
-use Rattle.clauses.proofs.Members.{left_62, names_rho}
+use Rattle.clauses.proofs.Members.{left_62, names_rho, boxed}
 use Rattle.sharing.proofs.Gather.{nothing_of}
 use Rattle.clause_walk.proofs.Shows.{channel_stop, channel_turn, most_as}
 use Rattle.clause_walk.proofs.outputs_pass.Goals as goal
@@ -13,7 +13,7 @@ loop-p-init c = record {
 
 pub for_outputs-g-requires-clause-names : goal.for_outputs-g-requires-clause-names
 for_outputs-g-requires-clause-names c =
-    names_rho _ _ _ _ c.requires.there (left_62 _ _ _ _ c.requires.names c.loop-p.invariant.passed.there c.in-Some.ensures.steps) c.rho.ensures
+    names_rho _ _ _ _ (boxed _ _ _ c.args.e.known c.requires.box_in) (left_62 _ _ _ _ c.requires.names c.loop-p.invariant.passed.there c.in-Some.ensures.steps) c.rho.ensures
 
 pub returns-then-not-is_subset : goal.returns-then-not-is_subset
 returns-then-not-is_subset c =

@@ -10,4 +10,4 @@ use Rattle.clauses.proofs.clause7.Goals as goal
 pub returns-in_err-absent-2 : goal.returns-in_err-absent-2
 returns-in_err-absent-2 c =
     let p = err_from_is_err_and c.from_residual-in_err-absent-2.result c.from_residual-in_err-absent-2.ensures.1 in
-    rw (p.1, p.2) (sym (seven_shown (estimate_of c.args.estimate.now) c.args.b (line_in c.args.l) _ (search shorts) (search shorts)))
+    rw (p.1, p.2) (sym (seven_shown (estimate_of c.args.estimate.now) c.args.b (line_in c.args.l.line) _ (search shorts) (search shorts)))

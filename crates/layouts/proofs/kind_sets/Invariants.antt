@@ -1,7 +1,6 @@
 -- `layouts::kind_sets` meets its contract. Assumes nothing.
-use Rattle.definitions.specs.Words.{block_of}
 use Rattle.layouts.specs.Layouts.{KindSetsOf}
 use Rattle.layouts.proofs.kind_sets.Given as goal
 
 abbrev pub invariant-loop-n : goal.invariant-loop-n
-invariant-loop-n l = KindSetsOf (block_of l.image 0) l.n l.s
+invariant-loop-n l = KindSetsOf l.head l.n l.s

@@ -3,4 +3,4 @@ use Rattle.layouts.proofs.BoundLaws.{BoundSoFar}
 use Rattle.layouts.proofs.layout_of.Given as goal
 
 abbrev pub invariant-loop-b : goal.invariant-loop-b
-invariant-loop-b l = BoundSoFar l.image l.frame.boxes l.b l.bound
+invariant-loop-b l = BoundSoFar l.image l.frame l.b l.each

@@ -4,6 +4,6 @@ use Rattle.line_walk.proofs.walk_lines.Given as goal
 
 abbrev pub invariant-loop-i : goal.invariant-loop-i
 invariant-loop-i l = record {
-  walk : Walking l.image l.k l.n l.kinds.listed l.kinds.restricted l.kinds.received l.kinds.exposed l.kinds.free l.start l.i l.bad l.seen l.up;
-  place : At l.k l.i l.p.at l.p.left;
+  walk : Walking l.lines.image.now l.lines.k l.lines.n l.kinds.listed l.kinds.restricted l.kinds.received l.kinds.exposed l.kinds.free l.start l.i l.bad l.seen l.up;
+  place : At l.lines.k l.i l.p.at l.p.left;
 }

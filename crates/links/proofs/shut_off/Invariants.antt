@@ -7,4 +7,4 @@ use Rattle.definitions.proofs.Loops.{Passing}
 use Rattle.links.proofs.shut_off.Given as goal
 
 abbrev pub invariant-loop-k : goal.invariant-loop-k
-invariant-loop-k l = Passing (λ j. j isnt l.h implies not (linked (estimate_of l.estimate) l.h j)) l.k
+invariant-loop-k l = Passing (λ j. j isnt l.h implies not (linked (estimate_of l.e.image.now) l.h j)) l.k

@@ -6,4 +6,4 @@ use Rattle.model_rules.proofs.PassLaws.{BoxesFit}
 use Rattle.model_rules.proofs.lines_pass.Given as goal
 
 abbrev pub invariant-loop-b : goal.invariant-loop-b
-invariant-loop-b l = BoxesFit (model_of l.image) l.l.boxes 7 line_count (line_fit (model_of l.image)) l.b
+invariant-loop-b l = BoxesFit (model_of l.m.image.now) l.m.layout.boxes 7 line_count (line_fit (model_of l.m.image.now)) l.b

@@ -3,4 +3,4 @@ use Rattle.model_rules.proofs.PassLaws.{ReachPass}
 use Rattle.model_rules.proofs.reach_pass.Given as goal
 
 abbrev pub invariant-loop-b : goal.invariant-loop-b
-invariant-loop-b l = ReachPass l.image l.l.boxes l.b l.bound
+invariant-loop-b l = ReachPass l.m.image.now l.m.layout.boxes l.b l.bound

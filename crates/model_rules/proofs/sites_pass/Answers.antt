@@ -5,13 +5,13 @@ use Rattle.model_rules.proofs.PassLaws.{six_start, six_turn, boxes_end}
 use Rattle.model_rules.proofs.sites_pass.Goals as goal
 
 pub loop-b-init : goal.loop-b-init
-loop-b-init c = six_start _ _ c.requires.right c.requires.layout.frame
+loop-b-init c = six_start _ _ c.args.m.now.right c.args.m.now.of.frame
 
 pub box_sites-requires-clause-few : goal.box_sites-requires-clause-few
-box_sites-requires-clause-few c = few_kinds _ _ c.requires.right c.requires.layout.frame
+box_sites-requires-clause-few c = few_kinds _ _ c.args.m.now.right c.args.m.now.of.frame
 
 pub loop-b-preserved : goal.loop-b-preserved
-loop-b-preserved c = six_turn _ _ _ _ c.requires.right c.requires.layout.frame c.loop-b.invariant (omega arith) _ _
+loop-b-preserved c = six_turn _ _ _ _ c.args.m.now.right c.args.m.now.of.frame c.loop-b.invariant (omega arith) _ _
     c.in_ok-box_sites.ensures c.subjects.ensures c.union-used.ensures
 
 pub returns : goal.returns

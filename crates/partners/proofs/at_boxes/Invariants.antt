@@ -5,4 +5,4 @@ use Rattle.partners.specs.Partners.{of_box}
 use Rattle.partners.proofs.at_boxes.Given as goal
 
 abbrev pub invariant-loop-k : goal.invariant-loop-k
-invariant-loop-k l = Passed l.boxes (of_box (estimate_of l.estimate) l.b l.x l.q) l.k
+invariant-loop-k l = Passed l.e.boxes (of_box (estimate_of l.e.image.now) l.b l.x l.q) l.k

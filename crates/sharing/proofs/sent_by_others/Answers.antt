@@ -2,15 +2,15 @@
 use Rattle.std.proofs.Common.{refl}
 use Rattle.sharing.proofs.Gather.{through_start, through_turn, sent_in_other, sent_out_own}
 use Rattle.sharing.proofs.sent_by_others.Goals as goal
-use Rattle.sharing.proofs.sent_by_others.Goals.{then-n-b, else-n-b}
+use Rattle.sharing.proofs.sent_by_others.Goals.{then-k-b, else-k-b}
 
-pub loop-n-init : goal.loop-n-init
-loop-n-init c = through_start _
+pub loop-k-init : goal.loop-k-init
+loop-k-init c = through_start _
 
-pub loop-n-preserved : goal.loop-n-preserved
-loop-n-preserved c =
-    through_turn _ _ _ _ c.loop-n.invariant (
-    elim c.if-n-b.branch [
-      | then-n-b w ↦ rw w.w-is (sent_in_other _ _ _ _ _ _ _ _ w.if-n-b.true c.requires.sent c.loop-n-test.true refl w.union-w.ensures)
-      | else-n-b w ↦ rw w.w-is (sent_out_own _ _ _ _ w.if-n-b.false)
+pub loop-k-preserved : goal.loop-k-preserved
+loop-k-preserved c =
+    through_turn _ _ _ _ c.loop-k.invariant (
+    elim c.if-k-b.branch [
+      | then-k-b w ↦ rw w.w-is (sent_in_other _ _ _ _ _ _ _ _ w.if-k-b.true c.requires.sent c.loop-k-test.true refl w.union-w.ensures)
+      | else-k-b w ↦ rw w.w-is (sent_out_own _ _ _ _ w.if-k-b.false)
     ])

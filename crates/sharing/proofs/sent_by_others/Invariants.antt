@@ -4,5 +4,5 @@ use Rattle.sharing.specs.Shared.{sent_by_other}
 use Rattle.sharing.proofs.Gather.{Through}
 use Rattle.sharing.proofs.sent_by_others.Given as goal
 
-abbrev pub invariant-loop-n : goal.invariant-loop-n
-invariant-loop-n l = Through (sent_by_other (estimate_of l.estimate) l.b) l.n l.w
+abbrev pub invariant-loop-k : goal.invariant-loop-k
+invariant-loop-k l = Through (sent_by_other (estimate_of l.e.image.now) l.b) l.k l.w

@@ -1,17 +1,27 @@
 -- `state_rules::records_fit` meets its contract. Assumes nothing.
-use Rattle.std.proofs.Common.{rules}
-use Rattle.definitions.proofs.Loops.{passing_turn}
-use Rattle.state_rules.proofs.StateLaws.{state_rules}
+use Rattle.std.proofs.Common.{arith}
+use Rattle.definitions.proofs.Loops.{passing_turn, passing_stop}
+use Rattle.state_rules.proofs.StateLaws.{used_lines, names_above, record_is}
 use Rattle.state_rules.proofs.records_fit.Goals as goal
 
-pub above-requires : goal.above-requires
-above-requires c = search (rules, state_rules)
+pub invariant_of-used : goal.invariant_of-used
+invariant_of-used c = record { there = used_lines _ _ c.args.m.now.read c.args.m.now.of _ (omega arith) _ _ c.lines_used.ensures }
 
-pub record_fits-requires-clause-names : goal.record_fits-requires-clause-names
-record_fits-requires-clause-names c = search (rules, state_rules)
+pub invariant_of-rules : goal.invariant_of-rules
+invariant_of-rules c = record {
+  names = names_above _ _ c.args.m.now.read c.args.m.now.of _ (omega arith) _ _ c.lines_used.ensures _ c.above.ensures;
+}
 
 pub returns-then-not-record_fits : goal.returns-then-not-record_fits
-returns-then-not-record_fits c = search (rules, state_rules)
+returns-then-not-record_fits c =
+    passing_stop _ _ _ _ (omega arith)
+    (record_is _ _ _ c.record-r.ensures _ _ _ _ _ _ _ c.args.m.now.read c.args.m.now.of (omega arith) c.requires.limits c.union-subjects.ensures
+    c.lines_used.ensures c.above.ensures c.record_fits.ensures)
+    c.if-not-record_fits.true
 
 pub loop-b-preserved : goal.loop-b-preserved
-loop-b-preserved c = passing_turn _ _ c.record_fits.result c.loop-b.invariant (search (rules, state_rules)) (search (rules, state_rules))
+loop-b-preserved c =
+    passing_turn _ _ _ c.loop-b.invariant
+    (record_is _ _ _ c.record-r.ensures _ _ _ _ _ _ _ c.args.m.now.read c.args.m.now.of (omega arith) c.requires.limits c.union-subjects.ensures
+    c.lines_used.ensures c.above.ensures c.record_fits.ensures)
+    c.if-not-record_fits.false

@@ -6,15 +6,17 @@ use Rattle.turns.proofs.inter.Goals as goal
 pub record-requires : goal.record-requires
 record-requires c = inter_room2 c.requires.ready _ _ _ _ c.requires.made
 
+pub invariant_of-y : goal.invariant_of-y
+invariant_of-y c = record { ready = sent_ready c.requires.ready _ _ _ _ c.requires.made _ c.record.ensures }
+
 pub sent-v-requires : goal.sent-v-requires
 sent-v-requires c = record {
-  ready = sent_ready c.requires.ready _ _ _ _ c.requires.made _ c.record.ensures;
   live = sent_live c.requires.ready _ _ _ _ c.requires.made _ c.record.ensures;
   there = sent_op c.requires.ready _ _ _ _ c.requires.made _ c.record.ensures;
 }
 
-pub overflow_mul-b : goal.overflow_mul-b
-overflow_mul-b c = record { fits = omega (arith, inter_box c.requires.ready _ _ _ _ c.requires.made) }
+pub overflow_mul-m : goal.overflow_mul-m
+overflow_mul-m c = record { fits = omega (arith, inter_box c.requires.ready _ _ _ _ c.requires.made) }
 
 pub split_at_mut-first-requires : goal.split_at_mut-first-requires
 split_at_mut-first-requires c = omega (arith, inter_room c.requires.ready _ _ _ _ c.requires.made)
@@ -31,8 +33,8 @@ receive-requires c =
       there = first_op c.requires.ready _ _ _ _ c.requires.made _ d;
     }
 
-pub overflow_mul-c : goal.overflow_mul-c
-overflow_mul-c c = record { fits = omega (arith, inter_box2 c.requires.ready _ _ _ _ c.requires.made) }
+pub overflow_mul-m-2 : goal.overflow_mul-m-2
+overflow_mul-m-2 c = record { fits = omega (arith, inter_box2 c.requires.ready _ _ _ _ c.requires.made) }
 
 pub split_at_mut-second-requires : goal.split_at_mut-second-requires
 split_at_mut-second-requires c =

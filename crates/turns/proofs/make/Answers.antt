@@ -8,8 +8,8 @@ use Rattle.turns.proofs.make.Goals as goal
 pub inter-requires-clause-made : goal.inter-requires-clause-made
 inter-requires-clause-made c = make_inter c.requires.ready _ _ _ _ _ c.requires.made (ap kind_number c.in-Inter.is)
 
-pub overflow_mul-b : goal.overflow_mul-b
-overflow_mul-b c = record { fits = omega (arith, make_box c.requires.ready _ _ _ _ _ c.requires.made (other_number _ c.in_default.not-Inter)) }
+pub overflow_mul-m : goal.overflow_mul-m
+overflow_mul-m c = record { fits = omega (arith, make_box c.requires.ready _ _ _ _ _ c.requires.made (other_number _ c.in_default.not-Inter)) }
 
 pub split_at_mut-words-requires : goal.split_at_mut-words-requires
 split_at_mut-words-requires c = omega (arith, make_room c.requires.ready _ _ _ _ _ c.requires.made (other_number _ c.in_default.not-Inter))

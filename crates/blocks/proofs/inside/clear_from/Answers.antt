@@ -1,7 +1,7 @@
 -- `blocks::inside::clear_from` meets its contract: the data words passed are joined. Assumes nothing.
 use Rattle.std.proofs.Common.{arith}
 use Rattle.definitions.proofs.Loops.{zeros-turn}
-use Rattle.blocks.proofs.Blocks.{clear-is}
+use Rattle.blocks.proofs.BlockLaws.{clear-is}
 use Rattle.blocks.proofs.inside.clear_from.Goals as goal
 
 pub loop-i-preserved : goal.loop-i-preserved

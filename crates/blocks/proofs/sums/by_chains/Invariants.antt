@@ -1,9 +1,8 @@
 -- `blocks::sums::by_chains` meets its contract: the words left take the chains, joined, to the answer. Assumes nothing.
-use Rattle.std.proofs.Common.{◌+◌, ◌-◌, ◌*◌, drop}
-use Rattle.definitions.specs.Words.{words_of}
-use Rattle.definitions.specs.Check.{check_from}
+use Rattle.std.proofs.Common.{◌+◌, ◌-◌, ◌*◌}
+use Rattle.definitions.specs.Check.{check_of}
 use Rattle.blocks.proofs.Loops.{Chains}
 use Rattle.blocks.proofs.sums.by_chains.Given as goal
 
 abbrev pub invariant-loop-i : goal.invariant-loop-i
-invariant-loop-i l = Chains l.s (check_from 1 (words_of 63 (drop l.at l.s))) (l.at + 24 + 32 * l.i) (15 - l.i) l.a l.b l.c l.d
+invariant-loop-i l = Chains l.block (check_of l.block) (24 + 32 * l.i) (15 - l.i) l.a l.b l.c l.d

@@ -1,21 +1,17 @@
 -- `making::inside::make` meets its contract. Assumes nothing.
-use mathlib.Core.Path.{◌≡◌, ap}
+use mathlib.Core.Path.{ap}
 use Rattle.state.specs.Kinds.{kind_number}
-use Rattle.making.proofs.ByKind.{not_made, kinds}
+use Rattle.making.proofs.Lefts.{drop_dead, drop_live, drop_left, other_number}
 use Rattle.making.proofs.inside.make.Goals as goal
 
 pub remove_thread-requires-clause-dead : goal.remove_thread-requires-clause-dead
-remove_thread-requires-clause-dead c = search kinds
+remove_thread-requires-clause-dead c = drop_dead c.requires.ready
 
 pub remove_thread-requires-clause-live : goal.remove_thread-requires-clause-live
-remove_thread-requires-clause-live c =
-    let e : kind_number c.args.kind ≡ 1 = ap kind_number c.in-Drop.is in
-    search (kinds, e)
+remove_thread-requires-clause-live c = drop_live c.requires.ready _ _ _ c.requires.made (ap kind_number c.in-Drop.is)
 
-pub unreachable-requires : goal.unreachable-requires
-unreachable-requires c = not_made _ _ _ _ _ _ (ap kind_number c.in-Inter.is) c.requires.made
+pub go_on-requires-clause-stays : goal.go_on-requires-clause-stays
+go_on-requires-clause-stays c = other_number _ c.in_default.not-Drop
 
 pub returns-in-Drop : goal.returns-in-Drop
-returns-in-Drop c =
-    let e : kind_number c.args.kind ≡ 1 = ap kind_number c.in-Drop.is in
-    search (kinds, e)
+returns-in-Drop c = drop_left c.requires.ready _ _ _ c.requires.made (ap kind_number c.in-Drop.is) _ c.remove_thread.ensures

@@ -5,4 +5,4 @@ use Rattle.sharing.proofs.Gather.{Through}
 use Rattle.sharing.proofs.Tables.shared_with.Given as goal
 
 abbrev pub invariant-loop-k : goal.invariant-loop-k
-invariant-loop-k l = Through (shared_by_other (estimate_of l.self.estimate.now) l.b l.x) l.k l.w
+invariant-loop-k l = Through (shared_by_other (estimate_of l.self.estimate.image.now) l.b l.x) l.k l.w

@@ -1,5 +1,0 @@
--- `push_number` calls itself for one digit less.
-use Rattle.report.proofs.text.Text.+push_number.Given as goal
-
-abbrev pub decreases-push_number : goal.decreases-push_number
-decreases-push_number l = l.most

@@ -1,0 +1,18 @@
+-- `runs::run_each` meets its contract. Assumes nothing.
+use mathlib.Core.Path.{sym, ap, ◌∙◌}
+use native.Mathlib.Omega.{arith}
+use lib.ListN.{length-map}
+use Rattle.std.proofs.lemmas.List.{get_or-map}
+use Rattle.runs.proofs.Fold.{no_move, moves_start, moves_turn}
+use Rattle.runs.proofs.run_each.Goals as goal
+
+pub loop-i-init : goal.loop-i-init
+loop-i-init g c =
+    moves_start _ _ _ _ _ (length-map c.args.moves.now g.T.Listed.as_move) _ c.in_ok-read.ensures.answer c.in_ok-read.ensures.ready c.in_ok-read.ensures.image
+
+pub loop-i-preserved : goal.loop-i-preserved
+loop-i-preserved g c =
+    let f = g.T.Listed.as_move in
+    moves_turn _ _ _ _ _ _ _ _ c.loop-i.invariant (omega (arith, c.loop-i-test.true, length-map c.args.moves.now f)) _
+    (get_or-map f c.args.moves.now c.loop-i.i c.index-moves-i.result no_move c.loop-i-test.true ∙ ap f (sym c.index-moves-i.is) ∙ sym c.get.ensures)
+    _ _ c.turn_at.ensures.words c.turn_at.ensures.answer c.turn_at.ensures.keeps

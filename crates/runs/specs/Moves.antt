@@ -1,0 +1,28 @@
+-- The moves of a lent list, and those of a list of numbers. Assumes nothing.
+use Rattle.std.specs.Prelude.{List, get_or, map, ℕ, ◌+◌, ◌*◌, ◌/◌, length}
+use Rattle.definitions.specs.Bounded.{tabulate}
+use Rattle.definitions.specs.Slots.{word}
+use Rattle.definitions.specs.Moves as moves
+use Rattle.state.specs.declared.moves.Move.{Move}
+use Rattle.state.specs.Moves.{move_of, move_in}
+
+-- the moves of a lent list
+abbrev pub moves_in : List Move → List moves.Move
+moves_in ms = map move_in ms
+
+-- the moves of a list of numbers, five a move; fewer than five at its end are no move
+unfoldable pub move_at : List ℕ → ℕ → Move
+move_at numbers i = record {
+  kind = word numbers (5 * i);
+  boxno = word numbers (5 * i + 1);
+  thread = word numbers (5 * i + 2);
+  boxno2 = word numbers (5 * i + 3);
+  thread2 = word numbers (5 * i + 4);
+}
+
+unfoldable pub moves_of : List ℕ → List Move
+moves_of numbers = tabulate (length numbers / 5) (move_at numbers)
+
+-- a move by a list of its five numbers
+abbrev pub five_in : List ℕ → moves.Move
+five_in a = move_of (get_or a 0 0) (get_or a 1 0) (get_or a 2 0) (get_or a 3 0) (get_or a 4 0)
