@@ -31,20 +31,20 @@ pub whole_is : (image r : List ℕ) (k : ℕ) → r ≡ take (512 * k + 512 - 51
 unfolding block_of
 whole_is image r k e = e ∙ ap (λ (n : ℕ). take n (drop (512 * k) image)) (let z : 512 * k + 512 - 512 * k ≡ 512 = omega arith in z)
 
-module _ (image r : List ℕ) (n k : ℕ) where
-  is_in : (x : Bool) → (2 upto n and n upto 5) ≡ x → shut.refused_part image (paper.refusal n k 0) ≡ elim x [ true ↦ block_of image k | false ↦ [] ]
+module _ (image r : List ℕ) (n k s : ℕ) where
+  is_in : (x : Bool) → (2 upto n and n upto 5) ≡ x → shut.refused_part image (paper.refusal n k s) ≡ elim x [ true ↦ block_of image k | false ↦ [] ]
   unfolding shut.refused_part
   is_in x e = ap (λ (y : Bool). elim y as (λ _. List ℕ) [ true ↦ block_of image k | false ↦ [] ]) e
 
-  pub part-below : n < 2 → r ≡ [] → r ≡ shut.refused_part image (paper.refusal n k 0)
+  pub part-below : n < 2 → r ≡ [] → r ≡ shut.refused_part image (paper.refusal n k s)
   part-below h q =
       q ∙ sym (is_in false (false_of (2 upto n and n upto 5) (λ t. let l = (upto_iff 2 n).0 ((and_iff (2 upto n) (n upto 5)).0 t).0 in absurd (omega arith))))
 
-  pub part_above : 5 < n → r ≡ [] → r ≡ shut.refused_part image (paper.refusal n k 0)
+  pub part_above : 5 < n → r ≡ [] → r ≡ shut.refused_part image (paper.refusal n k s)
   part_above h q =
       q ∙ sym (is_in false (false_of (2 upto n and n upto 5) (λ t. let l = (upto_iff n 5).0 ((and_iff (2 upto n) (n upto 5)).0 t).1 in absurd (omega arith))))
 
-  pub part_in : 2 ≤ n → n ≤ 5 → r ≡ block_of image k → r ≡ shut.refused_part image (paper.refusal n k 0)
+  pub part_in : 2 ≤ n → n ≤ 5 → r ≡ block_of image k → r ≡ shut.refused_part image (paper.refusal n k s)
   part_in h l q =
       q ∙ sym (is_in true (true_of (2 upto n and n upto 5) ((and_iff (2 upto n) (n upto 5)).1 ((upto_iff 2 n).1 h, (upto_iff n 5).1 l))))
 
@@ -69,11 +69,11 @@ module _ (model estimate p : List ℕ) (e : NotAccepted) where
   part-breaks x q z = z ∙ sym (ap (λ (w : NotAccepted). shut.refused_in model estimate (not_accepted_in w)) q)
 
   module _ (x : Refusal) where
-    pub part_model : e ≡ RefusedModel x → p ≡ shut.refused_part model (paper.refusal x.number x.place 0) → p ≡ shut.refused_in model estimate (not_accepted_in e)
+    pub part_model : e ≡ RefusedModel x → p ≡ shut.refused_part model (refusal_in x) → p ≡ shut.refused_in model estimate (not_accepted_in e)
     unfolding shut.refused_part
     part_model q z = z ∙ sym (ap (λ (w : NotAccepted). shut.refused_in model estimate (not_accepted_in w)) q)
 
-    pub part-estimate : e ≡ RefusedEstimate x → p ≡ shut.refused_part estimate (paper.refusal x.number x.place 0)
+    pub part-estimate : e ≡ RefusedEstimate x → p ≡ shut.refused_part estimate (refusal_in x)
         → p ≡ shut.refused_in model estimate (not_accepted_in e)
     unfolding shut.refused_part
     part-estimate q z = z ∙ sym (ap (λ (w : NotAccepted). shut.refused_in model estimate (not_accepted_in w)) q)

@@ -1,11 +1,13 @@
 -- Laws of the verdict and of the reply. Assumes nothing.
 use mathlib.Core.Path.{◌≡◌, refl, sym, ap, ap₂, ◌∙◌}
-use mathlib.Core.Bool.{Bool, true, false}
+use mathlib.Core.Bool.{Bool, true, false, false≢true}
 use mathlib.Core.List.{List}
 use mathlib.Core.Option.{Option, none, some}
 use Prim.Native.Nat.{ℕ, ◌≤◌, ◌<◌}
 use native.Mathlib.Omega.{arith}
 use borrow.Author.Rules.{rules}
+use Rattle.std.specs.Prelude.{Result, Ok, Err, MatchResult}
+use Rattle.std.specs.Result.{is_ok}
 use Rattle.definitions.specs.Bounded.{◌below◌}
 use Rattle.definitions.specs.Answer as paper
 use Rattle.definitions.specs.Image.{name_count, boxes_of, model_of}
@@ -15,6 +17,7 @@ use Rattle.definitions.specs.ReadEstimate.{read_estimate}
 use Rattle.definitions.specs.Clauses as cl
 use Rattle.definitions.specs.ShutOff as shut
 use Rattle.definitions.proofs.Bounded.{below_iff, true_of, false_of}
+use Rattle.refusals.specs.declared.Refusal.{Refusal}
 use Rattle.refusals.specs.Answers.{refusal_in}
 use Rattle.record_clauses.specs.Found.{broken_in}
 use Rattle.analysis.specs.declared.NotAccepted.{NotAccepted}
@@ -73,6 +76,19 @@ module _ (model estimate : List ℕ) where
   unfolding cl.check
   unrefused_check u =
       sym (ap₂ (λ (a b : Option paper.Refusal). cl.after_model a (cl.after_estimate b (cl.verdict_of (cl.first_broken (model_of model) (estimate_of estimate))))) u.model u.estimate)
+
+-- what an error was made of, and what is no error
+pub made_of : {A : Type 0} (w : Result A Refusal) (P : A → Type 0) (Q : Refusal → Type 0) → false ≡ is_ok w → MatchResult w P Q → (r : Refusal) × (w ≡ Err r) × Q r
+made_of (Ok x) P Q e m = absurd (false≢true e)
+made_of (Err r) P Q e m = (r, refl, m)
+
+abbrev IsOk : {A : Type 0} → A → A → Type 0
+IsOk {A} y x = let u : Result A NotAccepted = Ok y in let v : Result A NotAccepted = Ok x in u ≡ v
+
+pub left_ok : {A : Type 0} (w : Result A Refusal) (y : A) (Q : Refusal → Type 0) → true ≡ is_ok w
+    → MatchResult w (IsOk y) Q → w ≡ Ok y
+left_ok (Ok x) y Q e m = cc m
+left_ok (Err r) y Q e m = absurd (false≢true (sym e))
 
 -- ---- the reply
 

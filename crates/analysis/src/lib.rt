@@ -1,10 +1,10 @@
 #![tactic(auto)]
 // The checker. No call of this file asks anything of its arguments: any bytes, any box.
-// A refusal becomes a NotAccepted by a match: what `map_err` says of a constructor is not found by the proof.
 ghost use Rattle.std.specs.Prelude.{◌≡◌, IfOk};
 ghost use Rattle.definitions.specs.Clauses as clauses;
 ghost use Rattle.definitions.specs.ShutOff as shut;
-ghost use Rattle.analysis.specs.Answers.{verdict_in, reply_in};
+ghost use Rattle.record_clauses.specs.Found.{broken_in};
+ghost use Rattle.analysis.specs.Answers.{not_accepted_in, no_reply_in, verdict_in, reply_in};
 ghost use Rattle.analysis.specs.Places.{RefusedStands};
 
 use estimate::Estimate;
@@ -29,6 +29,24 @@ pub enum NoReply {
     Nobody,
 }
 
+// A broken clause, as why an estimate is not accepted.
+impl From<Broken> for NotAccepted {
+    ghost from_gives = { λ x e. not_accepted_in e ≡ clauses.breaks (broken_in x) };
+
+    fn from(x: Broken) -> NotAccepted {
+        NotAccepted::Breaks(x)
+    }
+}
+
+// Why an estimate is not accepted, as why there is no reply.
+impl From<NotAccepted> for NoReply {
+    ghost from_gives = { λ e r. no_reply_in r ≡ shut.not_accepted (not_accepted_in e) };
+
+    fn from(e: NotAccepted) -> NoReply {
+        NoReply::NotAccepted(e)
+    }
+}
+
 // Both images, where neither is refused. No clause is tried.
 #[tactic(auto, using(crate::proofs::Replies::verdicts))]
 fn both_read<'m, 'e>(model: &'m [u8], estimate: &'e [u8]) -> Result<Both<'m, 'e>, NotAccepted>
@@ -36,21 +54,16 @@ fn both_read<'m, 'e>(model: &'m [u8], estimate: &'e [u8]) -> Result<Both<'m, 'e>
     ensures model { IfOk result (λ b. b.model.image.now ≡ model.now) }
     ensures estimate { IfOk result (λ b. b.estimate.image.now ≡ estimate.now) }
 {
-    let model = match model::read(model) {
-        Ok(model) => model,
-        Err(r) => return Err(NotAccepted::RefusedModel(r)),
-    };
+    let model = model::read(model).map_err(NotAccepted::RefusedModel)?;
     let boxes = model.layout.boxes;
-    match estimate::read(estimate, model.layout.names, boxes) {
-        Ok(()) => Ok(Both {
-            model,
-            estimate: Estimate {
-                image: estimate,
-                boxes,
-            },
-        }),
-        Err(r) => Err(NotAccepted::RefusedEstimate(r)),
-    }
+    estimate::read(estimate, model.layout.names, boxes).map_err(NotAccepted::RefusedEstimate)?;
+    Ok(Both {
+        model,
+        estimate: Estimate {
+            image: estimate,
+            boxes,
+        },
+    })
 }
 
 // Both images, where neither is refused and no clause is broken.
@@ -61,10 +74,8 @@ fn both_accepted<'m, 'e>(model: &'m [u8], estimate: &'e [u8]) -> Result<Both<'m,
     ensures estimate { IfOk result (λ b. b.estimate.image.now ≡ estimate.now) }
 {
     let both = both_read(model, estimate)?;
-    match first_broken::find(&both) {
-        Ok(()) => Ok(both),
-        Err(x) => Err(NotAccepted::Breaks(x)),
-    }
+    first_broken::find(&both)?;
+    Ok(both)
 }
 
 // The checker: accepted, or why not.
@@ -96,15 +107,13 @@ fn shut_off_in(both: &Both<'_, '_>, h: usize) -> Result<bool, NoReply>
     Ok(links::shut_off(both.estimate, h))
 }
 
-// Whether box h is shut off.
+// Whether box h is shut off. h becomes an index by `as`: usize has no From<u32>.
 #[tactic(auto, using(crate::proofs::Replies::replies))]
 pub fn shut_off(model: &[u8], estimate: &[u8], h: u32) -> Result<bool, NoReply>
     ensures { reply_in result ≡ shut.question model.now estimate.now h }
 {
-    match both_accepted(model, estimate) {
-        Ok(both) => shut_off_in(&both, h as usize),
-        Err(e) => Err(NoReply::NotAccepted(e)),
-    }
+    let both = both_accepted(model, estimate)?;
+    shut_off_in(&both, h as usize)
 }
 
 // The refused block, where both images have one lifetime.

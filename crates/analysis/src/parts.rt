@@ -2,14 +2,14 @@
 // Bounds of indices and counts stand in the clauses: a type for each bound would be taken apart at every use.
 ghost use Rattle.std.specs.Prelude.{◌≡◌, [], ◌+◌, ◌*◌, ◌≤◌, length};
 ghost use Rattle.definitions.specs.Words.{block_of};
-ghost use Rattle.definitions.specs.Answer.{refusal};
 ghost use Rattle.definitions.specs.ShutOff as shut;
+ghost use Rattle.refusals.specs.Answers.{refusal_in};
 ghost use Rattle.analysis.specs.Answers.{not_accepted_in, verdict_in};
 ghost use Rattle.analysis.specs.Known.{BlockThere, RefusedThere};
 ghost use Rattle.analysis.specs.Places.{At, Stands, RefusedStands};
 
 use crate::NotAccepted;
-use refusals::Rule;
+use refusals::{Refusal, Rule};
 
 fn nothing<'a>(image: &'a [u8]) -> &'a [u8]
     ensures { (result.now ≡ []) × At result image.entry 0 }
@@ -28,19 +28,21 @@ fn whole<'a>(image: &'a [u8], k: usize) -> &'a [u8]
     &image[start..end]
 }
 
-// The block of a refusal, by its number. Only Check to Stray have one.
+// The block of a refusal of an image. Only Check to Stray have one.
 #[tactic(auto, using(crate::proofs::Refused::blocks))]
-fn refused<'a>(model: &'a [u8], image: &'a [u8], number: u8, k: usize) -> &'a [u8]
-    requires { BlockThere image.now number k }
-    ensures { (result.now ≡ shut.refused_part image.now (refusal number k 0)) × Stands model.entry image.entry result k }
+fn refused<'a>(model: &'a [u8], image: &'a [u8], r: Refusal) -> &'a [u8]
+    requires { BlockThere image.now r.number r.place }
+    ensures { (result.now ≡ shut.refused_part image.now (refusal_in r)) × Stands model.entry image.entry result r.place }
 {
-    if number < Rule::Check as u8 || (Rule::Stray as u8) < number {
-        return nothing(model);
+    if (Rule::Check as u8..=Rule::Stray as u8).contains(&r.number) {
+        whole(image, r.place)
+    } else {
+        nothing(model)
     }
-    whole(image, k)
 }
 
-// What is handed back where the estimate is not accepted: for a broken clause an empty part of the model.
+// What is handed back where the estimate is not accepted: for a broken clause an empty part of the model. The two refusals differ in their image:
+// one line each.
 #[tactic(auto, using(crate::proofs::Refused::parts))]
 fn of_refusal<'a>(model: &'a [u8], estimate: &'a [u8], e: NotAccepted) -> &'a [u8]
     requires { RefusedThere model.now estimate.now (not_accepted_in e) }
@@ -48,8 +50,8 @@ fn of_refusal<'a>(model: &'a [u8], estimate: &'a [u8], e: NotAccepted) -> &'a [u
 {
     match e {
         NotAccepted::Breaks(_) => nothing(model),
-        NotAccepted::RefusedModel(r) => refused(model, model, r.number, r.place),
-        NotAccepted::RefusedEstimate(r) => refused(model, estimate, r.number, r.place),
+        NotAccepted::RefusedModel(r) => refused(model, model, r),
+        NotAccepted::RefusedEstimate(r) => refused(model, estimate, r),
     }
 }
 

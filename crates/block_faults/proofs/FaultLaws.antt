@@ -8,14 +8,16 @@ use native.Mathlib.Omega.{arith}
 use lib.Dec.{eqb, ltb}
 use lib.ListN.{length}
 use mir.Val.{bool_byte}
+use Rattle.std.specs.Prelude.{MatchBool}
 use Rattle.definitions.specs.Bounded.{◌and◌, ◌implies◌, ◌is◌, ◌isnt◌, ◌below◌, ◌upto◌, some_if, or_else}
-use Rattle.definitions.specs.Words.{block_of, number_of, kind_of_block, box_of, count_of, spare_of, data_word}
+use Rattle.definitions.specs.Words.{block_of, count_of, data_word}
 use Rattle.definitions.specs.Check.{check_of, stored_check}
 use Rattle.definitions.specs.Answer.{Refusal, refusal}
-use Rattle.definitions.specs.ReadModel.{block_fault, clear_from, head_counts, head_fault, sites_fault, lines_fault, left_over_fault}
+use Rattle.definitions.specs.ReadModel.{heading_fits, block_fault, clear_from, head_counts, head_fault, sites_fault, lines_fault, left_over_fault}
 use Rattle.definitions.proofs.Bounded.{tests, below_iff, upto_iff, true_of, false_of, of_true, not-false, same_test, else_assoc}
+use Rattle.sets.proofs.Ranges.{Each, One, each_in, one_in}
 use Rattle.refusals.proofs.Answers.{answers}
-use Rattle.block_faults.specs.BlockFaults.{heading_fault, counts_fault, kinds_fit}
+use Rattle.block_faults.specs.BlockFaults.{headed_fault, heading_fault, counts_fault, kinds_fit}
 
 -- below a limit, or up to it
 below-turned : (m n : ℕ) → (m below n) ≡ not (n upto m)
@@ -35,11 +37,14 @@ there image k t e q = (upto_iff (512 * (k + 1)) (length image)).0 (of_true (sym 
 
 -- ---- 1, 2, 3
 
+pub headed_order : (block : List ℕ) (k asked box : ℕ) → headed_fault block k asked box
+    ≡ or_else (some_if (not (check_of block is stored_check block)) (refusal 2 k 0)) (some_if (not (heading_fits k asked box block)) (refusal 3 k 0))
+unfolding headed_fault ◌is◌ ◌isnt◌
+headed_order block k asked box = refl
+
 pub heading_order : (image : List ℕ) (k asked box : ℕ) → heading_fault image k asked box
-    ≡ or_else (some_if (not (512 * (k + 1) upto length image)) (refusal 1 k 0))
-    (or_else (some_if (not (check_of (block_of image k) is stored_check (block_of image k))) (refusal 2 k 0))
-    (some_if (not (number_of (block_of image k) is k and kind_of_block (block_of image k) is asked and box_of (block_of image k) is box and spare_of (block_of image k) is 0)) (refusal 3 k 0)))
-unfolding heading_fault ◌is◌ ◌isnt◌
+    ≡ or_else (some_if (not (512 * (k + 1) upto length image)) (refusal 1 k 0)) (headed_fault (block_of image k) k asked box)
+unfolding heading_fault
 heading_order image k asked box = rw (below-turned (length image) (512 * (k + 1))) refl
 
 -- ---- 4, 5
@@ -63,7 +68,7 @@ counts_order block k least most =
 
 block_parts : (image : List ℕ) (k asked b : ℕ) (counts clear : List ℕ → Bool) → block_fault image k asked b counts clear
     ≡ or_else (heading_fault image k asked b) (or_else (some_if (not (counts (block_of image k))) (refusal 4 k 0)) (some_if (not (clear (block_of image k))) (refusal 5 k 0)))
-unfolding block_fault heading_fault
+unfolding block_fault heading_fault headed_fault
 block_parts image k asked b counts clear =
     sym
     (else_assoc (some_if (length image below 512 * (k + 1)) (refusal 1 k 0)) _ _
@@ -101,13 +106,20 @@ head_order image = block_parts image 0 1 0 _ _
 
 module _ (block : List ℕ) where
   -- the kinds: each is at most 3, or some is not
-  pub kinds_yes : (names : ℕ) → ((n : ℕ) → n < names → data_word block (2 + n) ≤ 3) → true ≡ kinds_fit block names
+  kinds_yes : (names : ℕ) → ((n : ℕ) → n < names → data_word block (2 + n) ≤ 3) → true ≡ kinds_fit block names
   unfolding kinds_fit
   kinds_yes names f = sym (true_of _ (simp tests (λ n l h. f n h)))
 
-  pub kinds_no : (names n : ℕ) → names ≤ 60 → n < names → 3 < data_word block (2 + n) → false ≡ kinds_fit block names
+  kinds_no : (names n : ℕ) → names ≤ 60 → n < names → 3 < data_word block (2 + n) → false ≡ kinds_fit block names
   unfolding kinds_fit
   kinds_no names n few l h = sym (false_of _ (λ t. let p = simp tests at t in absurd (omega (arith, p n (omega arith) l))))
+
+  pub kinds_all : (names : ℕ) → names ≤ 60 → (r : Bool)
+      → MatchBool r (Each (λ n. data_word block (2 + n) ≤ 3) 0 names) (One (λ n. 3 < data_word block (2 + n)) 0 names) → r ≡ kinds_fit block names
+  kinds_all names few true h = kinds_yes names (λ n l. each_in (λ n. data_word block (2 + n) ≤ 3) 0 names h n zero-le (omega (arith, l)))
+  kinds_all names few false h =
+      let o = one_in (λ n. 3 < data_word block (2 + n)) 0 names h in
+      kinds_no names o.0 few (omega (arith, o.2)) o.3
 
   -- a count that is not zero, too many names, too many boxes; else the kinds decide
   pub head_counted : (count_of block ≡ 0 → ⊥) → false ≡ head_counts block
@@ -153,4 +165,4 @@ module _ (image : List ℕ) (k : ℕ) where
       sym (ap (λ (t : Bool). elim t as (λ _. Option Refusal) [ true ↦ found | false ↦ none ])
       (false_of (512 * k below length image) (λ t. let l = (below_iff (512 * k) (length image)).0 t in absurd (omega arith))))
 
-pub ruleset block_faults = (answers, there, heading_order, counts_order, sites_order, lines_order, head_order, kinds_yes, kinds_no, head_counted, head_names, head_boxes, head_kinds, head_few, left_some, left_none)
+pub ruleset block_faults = (answers, there, headed_order, heading_order, counts_order, sites_order, lines_order, head_order, head_counted, head_names, head_boxes, head_kinds, head_few, left_some, left_none)

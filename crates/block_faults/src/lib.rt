@@ -1,17 +1,27 @@
 #![tactic(auto, using(crate::proofs::FaultLaws::block_faults))]
 // Refusals 1 to 5 of one block: it is there, its check matches, its heading, its count, and nothing past its records.
 // Bounds of indices and counts stand in the clauses: a type for each bound would be taken apart at every use.
-ghost use Rattle.std.specs.Prelude.{◌≡◌, ◌+◌, ◌*◌, ◌%◌, ◌<◌, ◌≤◌, length, IfOk};
+ghost use Rattle.std.specs.Prelude.{◌≡◌, ◌≤◌, IfOk};
 ghost use Rattle.definitions.specs.Bounded.{◌and◌, ◌upto◌};
 ghost use Rattle.definitions.specs.Words.{block_of, count_of};
 ghost use Rattle.definitions.specs.ReadModel.{head_counts, head_fault, sites_fault, lines_fault, left_over_fault};
 ghost use Rattle.blocks.specs.Answers.{kind_number};
 ghost use Rattle.refusals.specs.Answers.{answer_in};
-ghost use Rattle.block_faults.specs.BlockFaults.{heading_fault, counts_fault, kinds_fit};
+ghost use Rattle.block_faults.specs.BlockFaults.{headed_fault, heading_fault, counts_fault, kinds_fit};
 
 use blocks::Blocks;
 use blocks::inside::BlockKind;
 use refusals::{Refusal, Rule};
+
+// 2 and 3 of a block, of number k: its check matches, and its heading is what the order asks for.
+pub fn headed(block: &[u8; 512], k: usize, kind: BlockKind, place: usize) -> Result<(), Refusal>
+    ensures { answer_in result ≡ headed_fault block.now k (kind_number kind) place }
+{
+    Rule::Check.fault_if(!blocks::inside::check_matches(block), k, 0)?;
+    let h = blocks::inside::heading_of(block);
+    let fits = blocks::inside::heading_matches(h, k, kind as usize, place);
+    Rule::Heading.fault_if(!fits, k, 0)
+}
 
 // Block k, which is there, whose check matches, and whose heading is what the order asks for.
 fn heading_fault(image: &[u8], k: usize, kind: BlockKind, b: usize) -> Result<&[u8; 512], Refusal>
@@ -20,10 +30,7 @@ fn heading_fault(image: &[u8], k: usize, kind: BlockKind, b: usize) -> Result<&[
 {
     Rule::Length.fault_if(!blocks::has_block(image, k), k, 0)?;
     let block = blocks::inside::block(image, k);
-    Rule::Check.fault_if(!blocks::inside::check_matches(block), k, 0)?;
-    let h = blocks::inside::heading_of(block);
-    let fits = blocks::inside::heading_matches(h, k, kind as usize, b);
-    Rule::Heading.fault_if(!fits, k, 0)?;
+    headed(block, k, kind, b)?;
     Ok(block)
 }
 
@@ -53,18 +60,12 @@ pub fn lines_block(image: &[u8], k: usize, b: usize, j: usize) -> Result<(), Ref
     counts_fault(block, k, usize::from(j == 0), 31)
 }
 
-// The kinds of the first so many names are at most 3, `records::NameKind::Exposed`: a crate above this one. A `for`: `all` over a closure
-// that lends the block tells its proof too little.
+// The kinds of the first so many names are at most 3, `records::NameKind::Exposed`: a crate above this one.
 fn kinds_fit(block: &[u8; 512], names: usize) -> bool
     requires { names ≤ 60 }
     ensures { result ≡ kinds_fit block.now names }
 {
-    for n in 0..names {
-        if 3 < blocks::inside::data_word(block, 2 + n) {
-            return false;
-        }
-    }
-    true
+    (0..names).all(|n| blocks::inside::data_word(block, 2 + n) <= 3)
 }
 
 fn head_counts(block: &[u8; 512]) -> bool

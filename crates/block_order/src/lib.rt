@@ -58,7 +58,8 @@ pub fn count(blocks: Blocks<'_>, k: usize) -> usize
     }
 }
 
-// How many blocks a box's lines take, the first being block k: one with fewer than 31 records is the last, and so is the fourth.
+// How many blocks a box's lines take, the first being block k: one with fewer than 31 records is the last, and so is the fourth. Three tests in a
+// row: a loop over them is no shorter.
 pub fn line_blocks(blocks: Blocks<'_>, k: usize) -> usize
     requires { k ≤ 100 }
     ensures { result ≡ line_blocks 4 blocks.entry.image.now k }

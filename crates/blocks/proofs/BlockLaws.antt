@@ -1,6 +1,7 @@
 -- Laws of a block: its check; whether an image has it; data words that are zero. Assumes nothing.
 use Rattle.std.proofs.Common.{◌≡◌, ℕ, ◌+◌, ◌-◌, ◌*◌, ◌/◌, ◌<◌, ◌≤◌, Bool, true, false, eqb, ltb, List, length, take, drop, sym, ap, ◌∙◌, ap₂, zero-le, le_refl, arith, rules}
 use mathlib.Core.Option.{none, some}
+use native.Mathlib.Nat.{div-one}
 use lib.ListN.{length-drop}
 use Rattle.std.specs.Array.{IsFirstChunk}
 use Rattle.std.proofs.lemmas.List.{take_all}
@@ -9,9 +10,9 @@ use Rattle.definitions.specs.Words.{word_at, block_of, data_word}
 use Rattle.definitions.specs.Check.{check_of, stored_check}
 use Rattle.definitions.specs.ReadModel.{clear_from}
 use Rattle.definitions.proofs.Bounded.{is_iff, upto_iff, below_iff, true_of, false_of, of_true, not-false, same_test}
-use Rattle.definitions.proofs.Loops.{ZeroRun, zeros-start, zeros-turn, zeros_end}
 use Rattle.definitions.proofs.ReadModel.{clear_iff}
-use Rattle.blocks.specs.Answers.{of_block}
+use Rattle.blocks.specs.Answers.{of_block, UnionOver}
+use Rattle.blocks.proofs.Unions.{union_past}
 
 -- ---- a block of an image
 
@@ -55,11 +56,12 @@ module _ {A : Type 0} (image : List ℕ) (k : ℕ) (f : List ℕ → A) where
 
 -- ---- data words that are zero, from a number on
 
-pub clear-is : (block : List ℕ) (from i w : ℕ) → ZeroRun (data_word block) from 62 i w → 62 ≤ i → eqb w 0 ≡ clear_from from block
+pub clear-is : (block : List ℕ) (from w : ℕ) → UnionOver (data_word block) from 62 w → eqb w 0 ≡ clear_from from block
 unfolding ◌is◌
-clear-is block from i w p h =
-    let zero = zeros_end (data_word block) from 62 i w p h in
-    same_test (w is 0) (clear_from from block) (λ t. (clear_iff from block).1 (λ j l q. zero.0 ((is_iff w 0).0 t) j l q))
-    (λ t. (is_iff w 0).1 (zero.1 (λ j l q. (clear_iff from block).0 t j l q)))
+clear-is block from w u =
+    let past = union_past (data_word block) from 62 0 w u in
+    same_test (w is 0) (clear_from from block)
+    (λ t. (clear_iff from block).1 (λ j l q. sym (div-one (data_word block j)) ∙ past.0 (div-one w ∙ (is_iff w 0).0 t) j l q))
+    (λ t. (is_iff w 0).1 (sym (div-one w) ∙ past.1 (λ j l q. div-one (data_word block j) ∙ (clear_iff from block).0 t j l q)))
 
-pub ruleset blocks = (rules, le_refl, zero-le, missing, of_there, of_missing, check-is, there, zeros-start, zeros-turn, clear-is)
+pub ruleset blocks = (rules, le_refl, zero-le, missing, of_there, of_missing, check-is, there, clear-is)

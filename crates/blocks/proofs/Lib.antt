@@ -1,3 +1,4 @@
 pub mod Modulo
 pub mod Loops
 pub mod BlockLaws
+pub mod Unions

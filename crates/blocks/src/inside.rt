@@ -5,7 +5,7 @@ ghost use Rattle.definitions.specs.Bounded.{◌and◌, ◌is◌};
 ghost use Rattle.definitions.specs.Words.{block_of, data_word};
 ghost use Rattle.definitions.specs.Check.{check_of, stored_check};
 ghost use Rattle.definitions.specs.ReadModel.{clear_from};
-ghost use Rattle.blocks.specs.Answers.{heading_of};
+ghost use Rattle.blocks.specs.Answers.{heading_of, UnionOver};
 
 // The kinds of blocks: a model's head, its sites and its lines; an estimate's tables rho, eps and kap.
 #[derive(Clone, Copy, PartialEq, Eq)]
@@ -28,7 +28,8 @@ pub struct Heading {
     pub spare: usize,
 }
 
-// Block k of an image that has it whole.
+// Block k of an image that has it whole. As state::record, of another type and length: a third function under both would be no shorter, since each
+// contract is its own definition's.
 #[tactic(auto, using(crate::proofs::BlockLaws::blocks))]
 pub fn block(image: &[u8], k: usize) -> &[u8; 512]
     requires { 512 * (k + 1) ≤ length image.now }
@@ -50,7 +51,8 @@ pub fn heading_of(block: &[u8; 512]) -> Heading
     }
 }
 
-// The heading is that of block k, of a kind and a box, and bytes 6 and 7 are zero.
+// The heading is that of block k, of a kind and a box, and bytes 6 and 7 are zero. The kind asked for is any number, as a heading's is: a
+// BlockKind would be narrower.
 pub fn heading_matches(h: Heading, k: usize, kind: usize, place: usize) -> bool
     ensures { result ≡ (h.number is k and h.kind is kind and h.place is place and h.spare is 0) }
 {
@@ -65,16 +67,21 @@ pub fn data_word(block: &[u8; 512], i: usize) -> u64
     words::word(block, 8 + 8 * i)
 }
 
+// The union of the data words from one number up to another: no word where the first is not below the second.
+#[tactic(auto, using(crate::proofs::Unions::unions))]
+pub fn union_of_words(block: &[u8; 512], from: usize, to: usize) -> u64
+    requires { to ≤ 62 }
+    ensures { UnionOver (data_word block.now) from to result }
+{
+    (from..to).fold(0, |w, i| w | data_word(block, i))
+}
+
 // Data words from a number on are zero: joined, and tested once.
 #[tactic(auto, using(crate::proofs::BlockLaws::blocks))]
 pub fn clear_from(block: &[u8; 512], from: usize) -> bool
     ensures { result ≡ clear_from from block.now }
 {
-    let mut w: u64 = 0;
-    for i in from..62 {
-        w |= data_word(block, i);
-    }
-    w == 0
+    union_of_words(block, from, 62) == 0
 }
 
 // The check that a block ought to have.

@@ -1,9 +1,10 @@
 // The check's arithmetic, modulo 2^64 on purpose, and the check of 63 words in four chains.
+// Bounds of indices and counts stand in the clauses: a type for each bound would be taken apart at every use.
 ghost use Rattle.std.specs.Prelude.{◌≡◌, ◌+◌, ◌*◌, ◌%◌, ◌^◌, ◌≤◌, length};
 ghost use Rattle.definitions.specs.Words.{word_at};
 ghost use Rattle.definitions.specs.Check.{check_of};
 
-// 31 x: five doublings, and x off.
+// 31 x: five doublings, and x off. No product: docs/DECISIONS.md, "31^4 in a chain", has the reason.
 #[tactic(auto, using(crate::proofs::Modulo::thirty_one))]
 fn times31(x: u64) -> u64
     ensures { result ≡ (31 * x) % 2 ^ 64 }
@@ -42,6 +43,7 @@ pub fn by_chains(block: &[u8; 512]) -> u64
     let mut b = words::word(block, 0);
     let mut c = words::word(block, 8);
     let mut d = words::word(block, 16);
+    // By places: each turn reads four words where they stand.
     for i in 0..15 {
         let p = 24 + 32 * i;
         a = chain_step(a, block, p);

@@ -1,5 +1,7 @@
 #![tactic(auto, using(crate::proofs::ReachLaws::reach))]
 // Rule 9 in one box: the names bound strictly above each line, and the first line whose names do not reach it.
+// That lines are those of box b, and that their tree fits, are clauses beside them: most walks ask only that they are there. A set of names is a
+// word, since words are joined with & and |: what it is a set of is a clause too.
 ghost use Rattle.std.specs.Prelude.{◌≡◌};
 ghost use Rattle.definitions.specs.Image.{model_of};
 ghost use Rattle.definitions.specs.ReadModel.{bound_before, reach_fits};
@@ -15,7 +17,7 @@ use records::names::binder;
 use records::{Line, Lines, Op};
 use refusals::{Refusal, Rule};
 
-// The entry c set to v where a test is met and c is in range.
+// The entry c set to v where a test is met and c is in range. A test beside the value, and no Option, which both callers would make of them.
 fn set_at(up: &mut [u64; 124], c: usize, v: u64, yes: bool)
     ensures { SetAt up.old c v yes up.new }
 {
@@ -32,7 +34,8 @@ fn set_at_children(up: &mut [u64; 124], l: Line, here: u64)
     set_at(up, l.child2, here, l.op == Op::Parallel as u8);
 }
 
-// The names that the lines hand down to each line: in a box whose tree fits, the names bound strictly above it.
+// The names that the lines hand down to each line: in a box whose tree fits, the names bound strictly above it. up has a word for each of 124
+// lines: fixed memory.
 pub fn above(lines: Lines<'_>, up: &mut [u64; 124])
     ensures { HandedDownEach lines.entry.image.now lines.entry.k lines.entry.n up.new }
 {

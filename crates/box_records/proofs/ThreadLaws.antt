@@ -2,29 +2,35 @@
 -- bindings of those names and no others. Assumes nothing.
 use mathlib.Core.Path.{◌≡◌, refl, sym, ap, ap₂, subst, ◌∙◌}
 use mathlib.Core.Bool.{Bool, true, false, not, ◌&&◌}
-use mathlib.Core.List.{List}
+use mathlib.Core.List.{List, [], ◌∷◌, ◌++◌}
 use mathlib.Core.Logic.{◌↔◌, ◌⊎◌, inl, inr}
-use Prim.Native.Nat.{ℕ, zero, suc, ◌+◌, ◌*◌, ◌^◌, ◌≤◌, ◌<◌, max, zero-le}
+use Prim.Native.Nat.{ℕ, zero, suc, ◌+◌, ◌-◌, ◌*◌, ◌^◌, ◌≤◌, ◌<◌, max, zero-le}
 use native.Mathlib.Nat.{le_antisymm, le_refl}
 use native.Mathlib.Omega.{arith}
 use native.Mathlib.Decide.{ℕ_discrete}
 use lib.Dec.{T, eqb}
-use lib.ListN.{length, get_or}
+use lib.ListN.{length, get_or, take, drop}
+use lib.Seq.{get_or-take, get_or-drop}
 use mir.Syntax.{w32}
 use mir.Val.{Fits, bool_byte}
+use Rattle.std.specs.Prelude.{MatchBool}
+use Rattle.std.specs.List.{range_with_len, All, AllWithin, HoldsAt}
+use Rattle.std.proofs.lemmas.List.Elements.{All-nil, All-push, All-weaker, All-get_or}
+use Rattle.std.proofs.lemmas.List.FromFn.{length-range_with_len, get_or-range_with_len}
 use Rattle.definitions.specs.Bounded.{◌and◌, ◌is◌, ◌isnt◌, all_below}
 use Rattle.definitions.specs.Sets.{has, for_each, size_below, size}
 use Rattle.definitions.specs.Slots.{word}
 use Rattle.definitions.specs.Model.{Box, Model, line_count, bound_above}
 use Rattle.definitions.specs.Record.{threads, thread, line, binding}
 use Rattle.definitions.specs.StateRules.{slots_fit, held_fits, thread_words_fit}
-use Rattle.definitions.proofs.Bounded.{tests, and_is, is_iff, isnt_iff, false_of, not-false, same_test, decide}
-use Rattle.definitions.proofs.Loops.{Passing, passing_start, passing_turn, passing_stop, passing_end}
+use Rattle.definitions.proofs.Bounded.{tests, and_is, is_iff, isnt_iff, all_iff, true_of, of_true, false_of, not-false, same_test, decide}
+use Rattle.definitions.proofs.Loops.{passing_stop}
 use Rattle.definitions.proofs.Sets.{and-true, and_assoc, for_each_iff, size_out}
 use Rattle.definitions.proofs.Slots.{word_slot, slot_length}
 use Rattle.definitions.proofs.StateRules.{HeldFits, held_iff, ThreadFits, thread_iff}
 use Rattle.sets.specs.Ascending.{LowestOf}
 use Rattle.sets.specs.Names.{NamesOnly}
+use Rattle.sets.proofs.Ranges.{Each, One, each_in, one_in}
 use Rattle.sets.proofs.Walk.{Left, left_start, left_turn, left_name, split_each, none_each}
 use Rattle.records.specs.NameSets.{SetOf}
 use Rattle.held_limits.specs.declared.Limit.{Limit}
@@ -42,17 +48,23 @@ pub count-start : (y : List ℕ) → CountRun y 0 0
 unfolding count_below
 count-start y = record { so_far = zero-le; same = refl }
 
-pub count_turn : (r : List ℕ) (t i c : ℕ) → CountRun (thread r t) i c → i < 60
-    → CountRun (thread r t) (i + 1) (c + bool_byte (not (eqb (get_or r (164 + 61 * t + i) 0) 0)))
+-- the bindings of thread t, as a part of the record
+abbrev pub binding_words : List ℕ → ℕ → List ℕ
+binding_words r t = take (164 + 61 * t + 60 - (164 + 61 * t)) (drop (164 + 61 * t) r)
+
+pub count_turn : (r : List ℕ) (t i c b : ℕ) → CountRun (thread r t) i c → i < 60 → b ≡ bool_byte (not (eqb (get_or (binding_words r t) i 0) 0))
+    → CountRun (thread r t) (i + 1) (c + b)
 unfolding has_binding ◌isnt◌
-count_turn r t i c p h = record {
+count_turn r t i c b p h e = record {
   so_far = omega arith;
-  same = ap₂ ◌+◌ p.same (ap (λ (v : ℕ). bool_byte (not (eqb v 0))) at ∙ one (not (eqb (binding (thread r t) i) 0)))
+  same = ap₂ ◌+◌ p.same (e ∙ ap (λ (v : ℕ). bool_byte (not (eqb v 0))) at ∙ one (not (eqb (binding (thread r t) i) 0)))
       ∙ sym (count_more (has_binding (thread r t)) i);
 }
   where
-    at : word r (164 + 61 * t + i) ≡ binding (thread r t) i
-    at = ap (word r) (omega arith) ∙ sym (word_slot 163 61 r t (1 + i) (omega arith))
+    at : get_or (binding_words r t) i 0 ≡ binding (thread r t) i
+    at =
+        get_or-take (164 + 61 * t + 60 - (164 + 61 * t)) (drop (164 + 61 * t) r) i 0 (omega arith) ∙ get_or-drop (164 + 61 * t) r i 0
+        ∙ ap (word r) (omega arith) ∙ sym (word_slot 163 61 r t (1 + i) (omega arith))
 
     one : (b : Bool) → bool_byte b ≡ elim b [ true ↦ 1 | false ↦ 0 ]
     one true = refl
@@ -192,52 +204,61 @@ module _ (limits : List Limit) (up : List ℕ) (lines : ℕ) (r : List ℕ) (t l
 
 -- ---- the lines at which threads stand
 
-pub covering : (lines used l : ℕ) → used ≤ lines → l < lines → Covering lines used l (max used (l + 1))
-covering lines used l few h = record { few = omega arith; most = omega arith; here = λ _. omega arith }
+module _ (lines used l k : ℕ) (at : l ≡ k) where
+  pub covering : l < lines → used ≤ lines → Covering lines used k (max used (l + 1))
+  covering h few = record { few = omega arith; most = omega arith; here = λ _. omega (arith, at) }
 
-pub not_covering : (lines used l : ℕ) → used ≤ lines → lines ≤ l → Covering lines used l used
-not_covering lines used l few h = record { few = few; most = le_refl used; here = λ q. absurd (omega arith) }
+  pub not_covering : lines ≤ l → used ≤ lines → Covering lines used k used
+  not_covering h few = record { few = few; most = le_refl used; here = λ q. absurd (omega (arith, at)) }
 
-pub stand_start : (r : List ℕ) (lines : ℕ) → StandBelow r lines 0 0
-stand_start r lines = record { few = zero-le; each = λ i h. absurd (omega arith) }
+-- thread t stands below line n where it stands below `lines`
+abbrev Low : List ℕ → ℕ → ℕ → ℕ → Type 0
+Low r lines n t = line (thread r t) < lines → line (thread r t) < n
 
-module _ (r : List ℕ) (lines t n : ℕ) (p : StandBelow r lines t n) where
-  pub stand_turn : (l m : ℕ) → l ≡ line (thread r t) → Covering lines n l m → StandBelow r lines (t + 1) m
-  stand_turn l m at c = record { few = c.few; each = λ i h k. pick i h k (ℕ_discrete t i) }
-    where
-      pick : (i : ℕ) → i < t + 1 → line (thread r i) < lines → Dec (t ≡ i) → line (thread r i) < m
-      pick i h k (yes q) =
-          let z : l ≡ line (thread r i) = at ∙ ap (λ (j : ℕ). line (thread r j)) q in
-          subst (λ (j : ℕ). j < m) z (c.here (subst (λ (j : ℕ). j < lines) (sym z) k))
-      pick i h k (no q) = omega (arith, p.each i (omega arith) k, c.most)
+-- so does each of these threads
+pub record EachLow (r : List ℕ) (lines : ℕ) (ts : List ℕ) (n : ℕ) : Type 0 where
+  pub few : n ≤ lines
+  pub each : All (Low r lines n) ts
 
-  pub stand_end : 16 ≤ t → StandBelow r lines 16 n
-  stand_end h = record { few = p.few; each = λ i k. p.each i (omega arith) }
+module _ (r : List ℕ) (lines : ℕ) where
+  pub stand_start : EachLow r lines [] 0
+  stand_start = record { few = zero-le; each = All-nil (Low r lines 0) }
+
+  pub stand_turn : (ts : List ℕ) (t n m : ℕ) → EachLow r lines ts n → (n ≤ lines → Covering lines n (line (thread r t)) m) → EachLow r lines (ts ++ t ∷ []) m
+  stand_turn ts t n m p f =
+      let c = f p.few in
+      record {
+        few = c.few;
+        each = All-push (Low r lines m) ts t (All-weaker (Low r lines n) (Low r lines m) (λ i g k. omega (arith, g k, c.most)) ts p.each) c.here;
+      }
+
+  pub stand_end : (n : ℕ) → EachLow r lines (range_with_len 0 16) n → StandBelow r lines 16 n
+  stand_end n p = record {
+    few = p.few;
+    each = λ i k. subst (Low r lines n) (omega (arith, get_or-range_with_len 0 16 i 0 k)) (All-get_or (Low r lines n) (range_with_len 0 16) i 0 k p.each);
+  }
 
 -- ---- the threads of a record
 
-pub record ThreadsRun (limits : List Limit) (up : List ℕ) (lines : ℕ) (r : List ℕ) (n t : ℕ) : Type 0 where
-  pub known : (m : Model) (last : ℕ → ℕ) (x : Box) → LimitsOf m last limits → AboveEach x lines up r n → Passing (thread_fits_at m last x r) t
+-- thread t of a record is decided so
+abbrev pub decided : List Limit → List ℕ → ℕ → List ℕ → Bool → ℕ → Type 0
+decided limits up lines r b t = DecidesThread limits up lines (thread r t) b
 
-module _ (limits : List Limit) (up : List ℕ) (lines : ℕ) (r : List ℕ) (n : ℕ) where
-  pub threads-start : ThreadsRun limits up lines r n 0
-  threads-start = record { known = λ m last x _ _. passing_start (thread_fits_at m last x r) }
-
-  module _ (t : ℕ) (b : Bool) (few : n ≤ 16) (h : t < n) (d : DecidesThread limits up lines (thread r t) b) where
-    pub threads-turn : ThreadsRun limits up lines r n t → b ≡ true → ThreadsRun limits up lines r n (t + 1)
-    unfolding thread_fits_at
-    threads-turn p z = record {
-      known = λ m last x l a. passing_turn (thread_fits_at m last x r) t b (p.known m last x l a) (d.decides m last x l (a.each t h (omega arith))) z;
-    }
-
-    pub threads_stop : b ≡ false → DecidesThreads limits up lines r n false
-    unfolding thread_fits_at
-    threads_stop z = record {
-      decides = λ m last x l a. passing_stop n (thread_fits_at m last x r) t b h (d.decides m last x l (a.each t h (omega arith))) z;
-    }
-
-  pub threads_end : (t : ℕ) → ThreadsRun limits up lines r n t → n ≤ t → DecidesThreads limits up lines r n true
-  threads_end t p h = record { decides = λ m last x l a. passing_end n (thread_fits_at m last x r) t (p.known m last x l a) h }
+module _ (limits : List Limit) (up : List ℕ) (lines : ℕ) (r : List ℕ) (n : ℕ) (few : n ≤ 16) where
+  -- the first n threads are decided so, as an iterator over their numbers says
+  pub threads_all : (b : Bool) → MatchBool b (Each (decided limits up lines r true) 0 n) (One (decided limits up lines r false) 0 n) → DecidesThreads limits up lines r n b
+  unfolding thread_fits_at
+  threads_all true h = record {
+    decides = λ m last x l a.
+        sym (true_of (all_below n (thread_fits_at m last x r)) ((all_iff n (thread_fits_at m last x r)).1
+        (λ t k. of_true (sym ((each_in (decided limits up lines r true) 0 n h t zero-le (omega (arith, k))).decides m last x l (a.each t k (omega arith)))))));
+  }
+  threads_all false h = record {
+    decides = λ m last x l a.
+        let o = one_in (decided limits up lines r false) 0 n h in
+        let i : o.0 < n = omega (arith, o.2) in
+        passing_stop n (thread_fits_at m last x r) o.0 false i (o.3.decides m last x l (a.each o.0 i (omega (arith, i)))) refl;
+  }
 
 -- each of the first n threads fits, and the other words are zero
 thread_slots : (m : Model) (last : ℕ → ℕ) (x : Box) (r : List ℕ) (n : ℕ) → length r ≡ 1139 → n ≡ threads r → n ≤ 16
@@ -271,6 +292,6 @@ module _ (limits : List Limit) (up : List ℕ) (lines : ℕ) (r : List ℕ) (n :
       decides = λ m last x l a. ap₂ ◌and◌ (sym z ∙ d.decides m last x l (first x a)) q ∙ thread_slots m last x r n long e h;
     }
 
-pub ruleset stand_rules = (covering, not_covering, stand_start, stand_turn, stand_end)
+pub ruleset stand_rules = (covering, not_covering)
 
-pub ruleset thread_rules = (count-start, count_turn, count_room, count_end, bindings_start, bindings_name, bindings_turn, bindings_end, thread_past, above_names, thread_count, thread_bound, threads-start, threads-turn, threads_stop, threads_end, threads_many, threads-misfit, threads-clear)
+pub ruleset thread_rules = (count-start, count_turn, count_room, count_end, bindings_start, bindings_name, bindings_turn, bindings_end, thread_past, above_names, thread_count, thread_bound, threads_many, threads-misfit, threads-clear)

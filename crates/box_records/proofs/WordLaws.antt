@@ -1,15 +1,17 @@
 -- Laws of words: those of a range are zero, those of the slots past a count are zero, and how many numbers pass a test. Assumes nothing.
 use mathlib.Core.Path.{◌≡◌, refl, sym, ap, ap₂, subst, ◌∙◌}
 use mathlib.Core.Bool.{Bool, true, false}
-use mathlib.Core.List.{List}
+use mathlib.Core.List.{List, []}
 use mathlib.Core.Logic.{◌↔◌}
-use Prim.Native.Nat.{ℕ, zero, suc, ◌+◌, ◌-◌, ◌*◌, ◌/◌, ◌%◌, ◌≤◌, ◌<◌}
+use Prim.Native.Nat.{ℕ, zero, suc, zero-le, ◌+◌, ◌-◌, ◌*◌, ◌/◌, ◌%◌, ◌≤◌, ◌<◌}
 use native.Mathlib.Nat.{le_refl, mul_comm, mul-le-mul_left, mod-lt, div-add-mod', div-lt_iff_lt-mul}
 use native.Mathlib.Numerals.{add-one}
 use native.Mathlib.Omega.{arith}
-use native.Mathlib.Decide.{ℕ_discrete}
+use native.Mathlib.Decide.{ℕ_discrete, dec_lt}
 use lib.Dec.{T, eqb}
-use lib.ListN.{length}
+use lib.ListN.{length, take, drop, get_or, length-take, length-drop}
+use lib.Seq.{get_or-take, get_or-drop, drop-drop}
+use Rattle.std.specs.Simd.{first_chunks}
 use Rattle.definitions.specs.Bounded.{◌and◌, ◌is◌, ◌below◌, ◌upto◌, all_below}
 use Rattle.definitions.specs.Slots.{word, slot}
 use Rattle.definitions.specs.StateRules.{clear, slots_fit}
@@ -32,42 +34,88 @@ clear_end r from to i w p h =
     (λ t. (between_iff r from to).1 (zero.0 ((is_iff w 0).0 t)))
     (λ t. (is_iff w 0).1 (zero.1 ((between_iff r from to).0 t)))
 
--- a range in runs of 64: the words from `from` up to i are zero
-pub record ClearRuns (r : List ℕ) (from i : ℕ) : Type 0 where
-  pub start : from ≤ i
-  pub few : i ≤ 1139
-  pub each : (j : ℕ) → j < i → from ≤ j → word r j ≡ 0
+-- a part of a list is zero where its words are
+pub clear_part : (r : List ℕ) (a n : ℕ) → a + n ≤ length r → clear_between (take n (drop a r)) 0 (length (take n (drop a r))) ≡ clear_between r a (a + n)
+clear_part r a n room =
+    same_test (clear_between part 0 (length part)) (clear_between r a (a + n))
+    (λ t. (between_iff r a (a + n)).1 (λ j l g. ap (word r) (let z : j ≡ a + (j - a) = omega arith in z) ∙ sym (at (j - a) (omega arith)) ∙ (between_iff part 0 (length part)).0 t (j - a) (omega (arith, size)) zero-le))
+    (λ t. (between_iff part 0 (length part)).1 (λ j l g. at j (omega (arith, size)) ∙ (between_iff r a (a + n)).0 t (a + j) (omega (arith, size)) (omega arith)))
+  where
+    part : List ℕ
+    part = take n (drop a r)
 
-module _ (r : List ℕ) (from : ℕ) where
-  pub runs_start : from ≤ 1139 → ClearRuns r from from
-  runs_start h = record { start = le_refl from; few = h; each = λ j l q. absurd (omega arith) }
+    size : length part ≡ n
+    size = simp (length-take, length-drop) (omega arith)
 
-  module _ (i : ℕ) (p : ClearRuns r from i) (t : Bool) where
-    pub runs_turn : (to : ℕ) → t ≡ clear_between r i (i + 64) → t ≡ true → i + 64 ≤ to → to ≤ 1139 → ClearRuns r from (i + 64)
-    runs_turn to q z room small = record { start = omega (arith, p.start); few = omega arith; each = λ j l g. pick j l g (j below i) refl }
-      where
-        pick : (j : ℕ) → j < i + 64 → from ≤ j → (x : Bool) → (j below i) ≡ x → word r j ≡ 0
-        pick j l g true u = p.each j ((below_iff j i).0 (of_true u)) g
-        pick j l g false u =
-            let past : j < i → ⊥ = λ s. not-false u ((below_iff j i).1 s) in
-            (between_iff r i (i + 64)).0 (of_true (sym q ∙ z)) j l (omega (arith, past))
+    at : (j : ℕ) → j < n → word part j ≡ word r (a + j)
+    at j l = get_or-take n (drop a r) j 0 l ∙ get_or-drop a r j 0
 
-    pub runs_stop : (to : ℕ) → i + 64 ≤ to → t ≡ clear_between r i (i + 64) → t ≡ false → false ≡ clear_between r from to
-    runs_stop to room q z =
-        sym (false_of (clear_between r from to) (λ u. not-false (sym q ∙ z) ((between_iff r i (i + 64)).1
-        (λ j l g. (between_iff r from to).0 u j (omega arith) (omega (arith, p.start))))))
+-- the end of a list too
+clear_rest : (r : List ℕ) (a : ℕ) → a ≤ length r → clear_between (drop a r) 0 (length (drop a r)) ≡ clear_between r a (length r)
+clear_rest r a h =
+    same_test (clear_between (drop a r) 0 (length (drop a r))) (clear_between r a (length r))
+    (λ t. (between_iff r a (length r)).1 (λ j l g. ap (word r) (let z : j ≡ a + (j - a) = omega arith in z) ∙ sym (get_or-drop a r (j - a) 0) ∙ (between_iff (drop a r) 0 (length (drop a r))).0 t (j - a) (omega (arith, size)) zero-le))
+    (λ t. (between_iff (drop a r) 0 (length (drop a r))).1 (λ j l g. get_or-drop a r j 0 ∙ (between_iff r a (length r)).0 t (a + j) (omega (arith, size)) (omega arith)))
+  where
+    size : length (drop a r) ≡ length r - a
+    size = length-drop a r
 
-    pub runs_end : (to : ℕ) → t ≡ clear_between r i to → t ≡ clear_between r from to
-    runs_end to q =
-        q ∙ same_test (clear_between r i to) (clear_between r from to)
-        (λ u. (between_iff r from to).1 (λ j l g. pick u j l g (j below i) refl))
-        (λ u. (between_iff r i to).1 (λ j l g. (between_iff r from to).0 u j l (omega (arith, p.start))))
-      where
-        pick : T (clear_between r i to) → (j : ℕ) → j < to → from ≤ j → (x : Bool) → (j below i) ≡ x → word r j ≡ 0
-        pick u j l g true y = p.each j ((below_iff j i).0 (of_true y)) g
-        pick u j l g false y =
-            let past : j < i → ⊥ = λ s. not-false y ((below_iff j i).1 s) in
-            (between_iff r i to).0 u j l (omega (arith, past))
+module _ (r : List ℕ) (from to : ℕ) where
+  pub run_none : to ≤ from → true ≡ clear_between r from to
+  run_none h = sym (true_of (clear_between r from to) ((between_iff r from to).1 (λ j l g. absurd (omega arith))))
+
+  pub run_part : (t : Bool) → t ≡ clear_between (take (to - from) (drop from r)) 0 (length (take (to - from) (drop from r))) → from ≤ to → to ≤ length r → t ≡ clear_between r from to
+  run_part t e h room = e ∙ clear_part r from (to - from) (omega arith) ∙ ap (clear_between r from) (let z : from + (to - from) ≡ to = omega arith in z)
+
+-- each of a list's runs of 64 words is zero
+pub record ClearRuns (runs : List (List ℕ)) : Type 0 where
+  pub each : (j : ℕ) → j < length runs → T (clear_between (get_or runs j []) 0 (length (get_or runs j [])))
+
+run_is : (k : ℕ) (xs : List ℕ) (i : ℕ) → i < k → get_or (first_chunks 64 k xs) i [] ≡ take 64 (drop (64 * i) xs)
+run_is zero xs i h = absurd (omega arith)
+run_is (suc k) xs zero h = refl
+run_is (suc k) xs (suc i) h =
+    run_is k (drop 64 xs) i (omega arith) ∙ ap (take 64) (drop-drop (64 * i) 64 xs ∙ ap (λ (n : ℕ). drop n xs) (let z : 64 + 64 * i ≡ 64 * suc i = omega arith in z))
+
+runs_many : (k : ℕ) (xs : List ℕ) → length (first_chunks 64 k xs) ≡ k
+runs_many zero xs = refl
+runs_many (suc k) xs = ap (λ (n : ℕ). suc n) (runs_many k (drop 64 xs))
+
+module _ (r : List ℕ) (from to : ℕ) (h : from ≤ to) (room : to ≤ length r) where
+  abbrev xs : List ℕ
+  xs = take (to - from) (drop from r)
+
+  whole : clear_between xs 0 (length xs) ≡ clear_between r from to
+  whole = run_part r from to _ refl h room
+
+  run_clear_is : (i : ℕ) → i < length xs / 64
+      → clear_between (get_or (first_chunks 64 (length xs / 64) xs) i []) 0 (length (get_or (first_chunks 64 (length xs / 64) xs) i [])) ≡ clear_between xs (64 * i) (64 * i + 64)
+  run_clear_is i l =
+      ap (λ (x : List ℕ). clear_between x 0 (length x)) (run_is (length xs / 64) xs i l) ∙ clear_part xs (64 * i) 64 (omega arith)
+
+  -- one of the runs is not zero
+  pub runs_some : (t : Bool) → ((i : ℕ) × (i < length (first_chunks 64 (length xs / 64) xs))
+      × (false ≡ clear_between (get_or (first_chunks 64 (length xs / 64) xs) i []) 0 (length (get_or (first_chunks 64 (length xs / 64) xs) i [])))) → t ≡ false → t ≡ clear_between r from to
+  runs_some t w z =
+      let i = w.0 in
+      let inside : i < length xs / 64 = omega (arith, w.1, runs_many (length xs / 64) xs) in
+      z ∙ sym (false_of (clear_between r from to) (λ u. not-false (sym (w.2 ∙ run_clear_is i inside))
+      ((between_iff xs (64 * i) (64 * i + 64)).1 (λ j q g. (between_iff xs 0 (length xs)).0 (of_true (whole ∙ true_of (clear_between r from to) u)) j (omega arith) zero-le))))
+
+  pub runs_end : (t : Bool) → ClearRuns (first_chunks 64 (length xs / 64) xs)
+      → t ≡ clear_between (drop (length xs / 64 * 64) xs) 0 (length (drop (length xs / 64 * 64) xs)) → t ≡ clear_between r from to
+  runs_end t p e =
+      e ∙ clear_rest xs (length xs / 64 * 64) (omega arith)
+      ∙ same_test (clear_between xs (length xs / 64 * 64) (length xs)) (clear_between xs 0 (length xs))
+      (λ u. (between_iff xs 0 (length xs)).1 (λ j l g. pick u j l (dec_lt j (length xs / 64 * 64))))
+      (λ u. (between_iff xs (length xs / 64 * 64) (length xs)).1 (λ j l g. (between_iff xs 0 (length xs)).0 u j l zero-le))
+      ∙ whole
+    where
+      pick : T (clear_between xs (length xs / 64 * 64) (length xs)) → (j : ℕ) → j < length xs → Dec (j < length xs / 64 * 64) → word xs j ≡ 0
+      pick u j l (yes q) =
+          let inside : j / 64 < length xs / 64 = omega arith in
+          (between_iff xs (64 * (j / 64)) (64 * (j / 64) + 64)).0 (of_true (sym (run_clear_is (j / 64) inside) ∙ true_of _ (p.each (j / 64) (omega (arith, runs_many (length xs / 64) xs))))) j (omega arith) (omega arith)
+      pick u j l (no q) = (between_iff xs (length xs / 64 * 64) (length xs)).0 u j l (omega arith)
 
 -- ---- slots
 
@@ -196,4 +244,4 @@ module _ (p q : ℕ → Bool) where
       pick (yes z) rest = subst (λ (j : ℕ). T (q j)) z (last.0 (subst (λ (j : ℕ). T (p j)) (sym z) t))
       pick (no z) rest = rest fewer last.1 (omega arith) t
 
-pub ruleset words = (zeros-start, zeros-turn, clear_end, runs_start, runs_turn, runs_stop, runs_end)
+pub ruleset words = (zeros-start, zeros-turn, clear_end, run_none, run_part, runs_end)

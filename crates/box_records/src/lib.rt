@@ -1,6 +1,7 @@
 #![tactic(auto)]
 // The state rules of one box record, by tables: the limits of the held names in order, and the names bound strictly above each line.
-// Tests of held names are joined by `&`, with no branch.
+// Tests of held names are joined by `&`, with no branch and no early exit; so are the sites of a record and the words of a type, by their
+// indices, since each is read by functions of the record at an index.
 // A set of names is a word, since words are joined with & and |; that it has no digit past the names is a clause.
 // Bounds of indices and counts stand in the clauses: a type for each bound would be taken apart at every use.
 ghost use Rattle.std.specs.Prelude.{◌≡◌, ◌<◌, ◌≤◌, length};
@@ -15,45 +16,49 @@ use held_limits::{Limit, held_fits};
 use sets::Ascending;
 use state::Held;
 
-// What the records of a box are tested by: the limits of held names, the names that a site may offer, how many lines the box has, and the
-// names bound strictly above each line at which a thread stands.
+// What the records of a box are tested by: the limits of held names, the names that a site may offer (of kind 0 or 3), how many lines the
+// box has, and the names bound strictly above each line at which a thread stands.
 #[derive(Clone, Copy)]
 pub struct Rules<'a> {
     pub limits: &'a [Limit; 64],
     pub subjects: u64,
+    // A count beside an array: in fixed memory `up` has a word for each of 124 lines, and the box has `lines` of them.
     pub lines: usize,
     pub up: &'a [u64; 124],
     pub ghost names: { NamesAbove lines up.now },
 }
 
-// The words of a list from one place up to another are zero: joined, and tested once.
+// The words of a list are zero: joined, and tested once.
+#[tactic(auto, using(crate::proofs::WordLaws::words))]
+fn all_clear(words: &[u32]) -> bool
+    ensures { result ≡ clear_between words.now 0 (length words.now) }
+{
+    let mut w = 0;
+    for x in words {
+        w |= *x;
+    }
+    w == 0
+}
+
+// The words of a list from one place up to another are zero. There are none where the first place lies above the other, so the places are
+// parameters and no slice.
 #[tactic(auto, using(crate::proofs::WordLaws::words))]
 pub fn run_clear(r: &[u32], from: usize, to: usize) -> bool
     requires { to ≤ length r.now }
     ensures { result ≡ clear_between r.now from to }
 {
-    let mut w = 0;
-    for i in from..to {
-        w |= r[i];
-    }
-    w == 0
+    from >= to || all_clear(&r[from..to])
 }
 
-// The same, in runs of 64 words: a step by 64, since the compiler unrolls a loop of one length.
+// The same, in runs of 64 words, since the compiler unrolls a loop of one length.
 #[tactic(auto, using(crate::proofs::WordLaws::words))]
 fn is_clear(r: &[u32; 1139], from: usize, to: usize) -> bool
-    requires start { from ≤ words.record_length }
+    requires start { from ≤ to }
     requires end { to ≤ words.record_length }
     ensures { result ≡ clear_between r.now from to }
 {
-    let mut i = from;
-    while i + 64 <= to {
-        if !run_clear(r, i, i + 64) {
-            return false;
-        }
-        i += 64;
-    }
-    run_clear(r, i, to)
+    let (runs, rest) = r[from..to].as_chunks::<64>();
+    runs.iter().all(|run| all_clear(run)) && all_clear(rest)
 }
 
 // v may stand behind `before` in a type.
@@ -81,17 +86,17 @@ fn type_fits(limits: &[Limit; 64], r: &[u32; 1139], i: usize) -> bool
     held_fits(limits, first) & ok
 }
 
-// Site i; subjects: the names of kind 0 or 3.
+// Site i.
 #[tactic(auto, using(crate::proofs::SiteLaws::site_rules))]
-fn site_fits(limits: &[Limit; 64], subjects: u64, r: &[u32; 1139], i: usize) -> bool
+fn site_fits(rules: &Rules<'_>, r: &[u32; 1139], i: usize) -> bool
     requires { i < slot_limit }
-    ensures { DecidesSite limits.now subjects (words.site r.now i) result }
+    ensures { DecidesSite rules.now.limits.now rules.now.subjects (words.site r.now i) result }
 {
     let s = state::subject(r, i);
-    held_fits(limits, s)
-        & sets::contains(subjects, state::number(s))
+    held_fits(rules.limits, s)
+        & sets::contains(rules.subjects, state::number(s))
         & (state::flag(r, i) <= 1)
-        & type_fits(limits, r, i)
+        & type_fits(rules.limits, r, i)
 }
 
 // The subject of site i is that of no site before it.
@@ -110,24 +115,24 @@ fn new_subject(r: &[u32; 1139], i: usize) -> bool
 
 // The first n sites.
 #[tactic(auto, using(crate::proofs::SiteLaws::site_rules))]
-fn sites_fit(limits: &[Limit; 64], subjects: u64, r: &[u32; 1139], n: usize) -> bool
+fn sites_fit(rules: &Rules<'_>, r: &[u32; 1139], n: usize) -> bool
     requires { n ≤ slot_limit }
-    ensures { DecidesSites limits.now subjects r.now n result }
+    ensures { DecidesSites rules.now.limits.now rules.now.subjects r.now n result }
 {
     let mut ok = true;
     for i in 0..n {
-        ok &= site_fits(limits, subjects, r, i) & new_subject(r, i);
+        ok &= site_fits(rules, r, i) & new_subject(r, i);
     }
     ok
 }
 
 // The sites of a record, and the words of those that it lacks.
 #[tactic(auto, using(crate::proofs::SiteLaws::site_rules))]
-fn site_slots_fit(limits: &[Limit; 64], subjects: u64, r: &[u32; 1139]) -> bool
-    ensures { DecidesSiteSlots limits.now subjects r.now result }
+fn site_slots_fit(rules: &Rules<'_>, r: &[u32; 1139]) -> bool
+    ensures { DecidesSiteSlots rules.now.limits.now rules.now.subjects r.now result }
 {
     let n = state::sites(r);
-    n <= 16 && sites_fit(limits, subjects, r, n) && is_clear(r, 3 + 10 * n, 163)
+    n <= 16 && sites_fit(rules, r, n) && is_clear(r, 3 + 10 * n, 163)
 }
 
 // How many names have a binding in thread t.
@@ -138,8 +143,8 @@ fn bindings(r: &[u32; 1139], t: usize) -> u32
 {
     let at = 164 + 61 * t;
     let mut c = 0;
-    for i in 0..60 {
-        c += u32::from(r[at + i] != 0);
+    for v in &r[at..at + 60] {
+        c += u32::from(*v != 0);
     }
     c
 }
@@ -173,38 +178,28 @@ fn thread_fits(rules: &Rules<'_>, r: &[u32; 1139], t: usize) -> bool
 }
 
 // The first n threads.
-#[tactic(auto, using(crate::proofs::ThreadLaws::thread_rules))]
 fn threads_fit(rules: &Rules<'_>, r: &[u32; 1139], n: usize) -> bool
     requires { n ≤ slot_limit }
     ensures { DecidesThreads rules.now.limits.now rules.now.up.now rules.now.lines r.now n result }
 {
-    for t in 0..n {
-        if !thread_fits(rules, r, t) {
-            return false;
-        }
-    }
-    true
+    (0..n).all(|t| thread_fits(rules, r, t))
 }
 
-// So many lines that line l, where it is one of `lines`, is one of them too.
+// So many lines that the line of thread t, where it is one of `lines`, is one of them too.
 #[tactic(auto, using(crate::proofs::ThreadLaws::stand_rules))]
-fn covering(lines: usize, used: usize, l: usize) -> usize
-    requires { used ≤ lines }
-    ensures { Covering lines used l result }
+fn covering(r: &[u32; 1139], lines: usize, used: usize, t: usize) -> usize
+    requires { t < slot_limit }
+    ensures { used ≤ lines → Covering lines used (words.line (words.thread r.now t)) result }
 {
+    let l = state::line(r, t);
     if l < lines { used.max(l + 1) } else { used }
 }
 
 // So many lines that each thread which stands at one of `lines` stands at one of them.
-#[tactic(auto, using(crate::proofs::ThreadLaws::stand_rules))]
 pub fn lines_used(r: &[u32; 1139], lines: usize) -> usize
     ensures { StandBelow r.now lines slot_limit result }
 {
-    let mut used = 0;
-    for t in 0..16 {
-        used = covering(lines, used, state::line(r, t));
-    }
-    used
+    (0..16).fold(0, |used, t| covering(r, lines, used, t))
 }
 
 // The threads of a record, and the words of those that it lacks.
@@ -222,5 +217,5 @@ pub fn record_fits(rules: &Rules<'_>, r: &[u32; 1139]) -> bool
     requires stamp { words.stamp r.now ≤ words.stamp_limit }
     ensures { DecidesRecord rules.now.limits.now rules.now.up.now rules.now.lines rules.now.subjects r.now result }
 {
-    site_slots_fit(rules.limits, rules.subjects, r) && thread_slots_fit(rules, r)
+    site_slots_fit(rules, r) && thread_slots_fit(rules, r)
 }

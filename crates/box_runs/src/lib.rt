@@ -1,6 +1,7 @@
 #![tactic(auto, using(crate::proofs::Runs::runs))]
 // Runs over the records of one box: what its sites and lines say together, and its first record that does not fit.
-// That lines are those of box b is a clause beside them: most walks ask only that they are there.
+// That lines are those of box b is a clause beside them: most walks ask only that they are there. Sites are an image, a block and a count, and no
+// struct: the contracts speak of the image, and a block by itself would have to be tied to it.
 // Bounds of indices and counts stand in the clauses: a type for each bound would be taken apart at every use.
 ghost use Rattle.std.specs.Prelude.{◌≡◌, ◌+◌, ◌*◌, ◌<◌, ◌≤◌, length};
 ghost use Rattle.definitions.specs.Words.{block_of};
@@ -27,33 +28,21 @@ pub fn subjects(image: &[u8], k: usize, n: usize) -> u64
     ensures { SetOf result (subject_in (block_of image.now k) n) }
 {
     let block = block(image, k);
-    let mut s = 0;
-    for i in 0..n {
-        s = sets::insert(s, site(block, i).subject);
-    }
-    s
+    (0..n).fold(0, |s, i| sets::insert(s, site(block, i).subject))
 }
 
 // The names that the lines bind.
 pub fn bound_by(lines: Lines<'_>) -> u64
     ensures { SetOf result (bound_in lines.entry.image.now lines.entry.k lines.entry.n) }
 {
-    let mut s = 0;
-    for i in 0..lines.n {
-        s = sets::union(s, binder(lines.line(i)));
-    }
-    s
+    (0..lines.n).fold(0, |s, i| sets::union(s, binder(lines.line(i))))
 }
 
 // The lines that are children of these.
 fn children(lines: Lines<'_>) -> LineSet
     ensures { LineSetOf result (child_in lines.entry.image.now lines.entry.k lines.entry.n) }
 {
-    let mut s = LineSet(0);
-    for i in 0..lines.n {
-        s = with_children(s, lines.line(i));
-    }
-    s
+    (0..lines.n).fold(LineSet(0), |s, i| with_children(s, lines.line(i)))
 }
 
 // 6 in box b, whose n sites are block k; free: the free names; used: the subjects of earlier boxes.

@@ -4,7 +4,7 @@ use mathlib.Core.Bool.{Bool, true, false}
 use mathlib.Core.List.{List}
 use mathlib.Core.Logic.{inl, inr}
 use mathlib.Core.Option.{none}
-use Prim.Native.Nat.{ℕ, ◌+◌, ◌*◌, ◌/◌, ◌%◌, ◌≤◌, ◌<◌}
+use Prim.Native.Nat.{ℕ, ◌%◌, ◌≤◌, ◌<◌}
 use native.Mathlib.Nat.{not-suc-le-zero}
 use native.Mathlib.Omega.{arith}
 use borrow.Author.Rules.{rules}
@@ -32,7 +32,7 @@ use Rattle.sharing.specs.declared.Gathered.{Gathered}
 use Rattle.sharing.specs.Shared.{Least, all_sent_in, sent_by_others, shared_on, may_send, GatheredOf}
 use Rattle.sharing.proofs.Gather.{others_on, five-met, six_met}
 use Rattle.line_gather.specs.Gathered.{LinesOfNames, Gathers}
-use Rattle.clause_walk.specs.Lines.{OpsOfNames, ListOfNames, NotExpose, NamesPass, ShowsNames, ListedPass, PassesWith, ShowsList, LinePasses, ShowsLines}
+use Rattle.clause_walk.specs.Lines.{OpsOfNames, ListBelow, NotExpose, NamesPass, ShowsNames, ListedPass, PassesWith, ShowsList, LinePasses, ShowsLines}
 
 -- ---- the names by operation
 
@@ -132,12 +132,8 @@ module _ (model : List ℕ) (e : Estimate) (boxes b k : ℕ) (listed : List ℕ)
   pub list_end : (m : ℕ) → ListPassed model e boxes b k listed m → length listed ≤ m → ShowsList model e boxes b k listed true
   list_end m p h = record { shows = λ _ j l. p.each j (omega arith) }
 
-module _ (model : List ℕ) (k m : ℕ) (listed : List ℕ) (f : ListOfNames model k listed) (h : m < length listed) where
-  pub list_there : (i : ℕ) → i ≡ get_or listed m 0 → 512 * (k + 1 + i / 31 + 1) ≤ length model
-  list_there i e = rw e (f.there m h)
-
-  pub list_names : (i : ℕ) (l : paper.Line) → i ≡ get_or listed m 0 → l ≡ line_record_at model k i → LineOfNames l
-  list_names i l ei el = subst LineOfNames (sym (el ∙ ap (line_record_at model k) ei)) (f.each m h)
+pub list_at : (n m i : ℕ) (listed : List ℕ) → ListBelow listed n → m < length listed → i ≡ get_or listed m 0 → i < n
+list_at n m i listed f h e = rw e (f.each m h)
 
 -- ---- every line
 
@@ -151,11 +147,8 @@ module _ (model estimate : List ℕ) (k n c : ℕ) (ops sent listed : List ℕ) 
   same : (m : ℕ) → m < length (take c listed) → get_or (take c listed) m 0 ≡ get_or listed m 0
   same m l = get_or-take c listed m 0 (taken m l)
 
-  pub list_named : ListOfNames model k (take c listed)
-  list_named = record {
-    there = λ m l. rw (same m l) (there.there.there (get_or listed m 0) (g.inside m (taken m l)));
-    each = λ m l. rw (same m l) (there.each (get_or listed m 0) (g.inside m (taken m l)));
-  }
+  pub list_below : ListBelow (take c listed) n
+  list_below = record { each = λ m l. rw (same m l) (g.inside m (taken m l)) }
 
   module _ (boxes b : ℕ) where
     e : Estimate
@@ -242,6 +235,6 @@ pub ruleset outputs = (rules, left_62, each_end, names_rho, box_there, box_62, b
 
 pub ruleset inputs = (rules, rho_names, box_62, names_62, second_62, all_as, listed_expose, listed_others, listed_asks, not-expose, type_names)
 
-pub ruleset lists = (rules, list_no, list_end, list_there, list_names)
+pub ruleset lists = (rules, list_no, list_end, list_at)
 
-pub ruleset shown = (rules, ops_named, list_named, lines_no, lines_yes, ops_62, boxed, second_62)
+pub ruleset shown = (rules, ops_named, list_below, lines_no, lines_yes, ops_62, boxed, second_62)

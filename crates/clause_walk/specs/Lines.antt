@@ -1,5 +1,5 @@
 -- What one walk over a box's lines may show: that no line breaks a clause. Assumes nothing.
-use Rattle.std.specs.Prelude.{◌≡◌, Bool, List, ℕ, ◌+◌, ◌*◌, ◌/◌, ◌≤◌, ◌<◌, T, length, get_or}
+use Rattle.std.specs.Prelude.{◌≡◌, Bool, List, ℕ, ◌<◌, T, length, get_or}
 use Rattle.std.proofs.Math.Option.{none}
 use Rattle.definitions.specs.Sets.{has, for_each, within}
 use Rattle.definitions.specs.Model.{Line, restriction, output, input, expose, hide, unhide}
@@ -7,7 +7,6 @@ use Rattle.definitions.specs.Estimate.{Estimate}
 use Rattle.definitions.specs.Clauses.{clause3, clause4, clause5, clause6, clause7, clause8, clause9}
 use Rattle.records.specs.Places.{line_record_at}
 use Rattle.sets.specs.Names.{NamesOnly}
-use Rattle.clauses.specs.Known.{LineOfNames}
 use Rattle.sharing.specs.declared.Gathered.{Gathered}
 use Rattle.sharing.specs.Shared.{GatheredOf}
 
@@ -15,10 +14,9 @@ use Rattle.sharing.specs.Shared.{GatheredOf}
 pub record OpsOfNames (ops : List ℕ) : Type 0 where
   pub each : (o : ℕ) → o < 16 → NamesOnly (get_or ops o 0)
 
--- the lines of a list are there, each with names below 60
-pub record ListOfNames (model : List ℕ) (k : ℕ) (listed : List ℕ) : Type 0 where
-  pub there : (m : ℕ) → m < length listed → 512 * (k + 1 + get_or listed m 0 / 31 + 1) ≤ length model
-  pub each : (m : ℕ) → m < length listed → LineOfNames (line_record_at model k (get_or listed m 0))
+-- the numbers of a list are below n
+pub record ListBelow (listed : List ℕ) (n : ℕ) : Type 0 where
+  pub each : (m : ℕ) → m < length listed → get_or listed m 0 < n
 
 pub record NotExpose (l : Line) : Type 0 where
   pub other : l.op ≡ expose → ⊥

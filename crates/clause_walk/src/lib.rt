@@ -3,20 +3,18 @@
 // It names no line.
 // A set of names is a word, since words are joined with & and |; that it has no digit past the names is a clause.
 // Bounds of indices and counts stand in the clauses: a type for each bound would be taken apart at every use.
-// A model, its block and the count of lines, and no Lines: that the names of lines are below 60 is known of them besides.
-ghost use Rattle.std.specs.Prelude.{◌≡◌, ◌<◌, ◌≤◌, get_or, IfSome};
+ghost use Rattle.std.specs.Prelude.{◌≡◌, ◌<◌, get_or, IfSome};
 ghost use Rattle.definitions.specs.Sets as names;
 ghost use Rattle.definitions.specs.Estimate.{estimate_of};
 ghost use Rattle.records.specs.Records.{line_in};
 ghost use Rattle.sets.specs.Names.{NamesOnly};
 ghost use Rattle.sharing.specs.Shared.{Least, sent_by_others, may_send, GatheredOf};
-ghost use Rattle.line_gather.specs.Gathered.{LinesOfNames};
-ghost use Rattle.clause_walk.specs.Lines.{OpsOfNames, ListOfNames, NotExpose, ShowsNames, PassesWith, ShowsList, ShowsLines};
+ghost use Rattle.clause_walk.specs.Lines.{OpsOfNames, ListBelow, NotExpose, ShowsNames, PassesWith, ShowsList, ShowsLines};
 
 use clauses::NamedLine;
 use estimate::Estimate;
+use line_gather::NamedLines;
 use records::Op;
-use records::inside::line;
 use sets::Ascending;
 use sharing::{Gathered, Tables};
 
@@ -108,17 +106,15 @@ fn listed_passes(
 
 // Clauses 5, 6 and 7 at the lines of the list.
 #[tactic(auto, using(crate::proofs::Shows::lists))]
-fn list_passes(model: &[u8], t: &Tables<'_>, k: usize, b: usize, listed: &[u8]) -> bool
+fn list_passes(named: NamedLines<'_>, t: &Tables<'_>, b: usize, listed: &[u8]) -> bool
     requires box_in { b < t.now.estimate.boxes }
-    requires lines { ListOfNames model.now k listed.now }
-    ensures { ShowsList model.now (estimate_of t.now.estimate.image.now) t.now.estimate.boxes b k listed.now result }
+    requires listed { ListBelow listed.now named.lines.n }
+    ensures { ShowsList named.entry.lines.image.now (estimate_of t.now.estimate.image.now) t.now.estimate.boxes b named.entry.lines.k listed.now result }
 {
     let others = sharing::sent_by_others(t.estimate, &t.each, b);
     let mut g = sharing::nothing();
     for i in listed {
-        let l = NamedLine {
-            line: line(model, k, usize::from(*i)),
-        };
+        let l = named.line(usize::from(*i));
         let Some(passed) = listed_passes(t, b, others, l, g) else {
             return false;
         };
@@ -127,19 +123,18 @@ fn list_passes(model: &[u8], t: &Tables<'_>, k: usize, b: usize, listed: &[u8]) 
     true
 }
 
-// Whether one walk shows that none of the n lines after block k, the lines of box b, breaks a clause.
+// Whether one walk shows that none of the lines of box b breaks a clause.
 #[tactic(auto, using(crate::proofs::Shows::shown))]
-pub fn lines_pass(model: &[u8], t: &Tables<'_>, k: usize, b: usize, n: usize) -> bool
-    requires box_in { b < t.now.estimate.boxes }
-    requires lines { LinesOfNames model.now k n }
-    ensures { ShowsLines model.now (estimate_of t.now.estimate.image.now) t.now.estimate.boxes b k n result }
+pub fn lines_pass(named: NamedLines<'_>, t: &Tables<'_>, b: usize) -> bool
+    requires { b < t.now.estimate.boxes }
+    ensures { ShowsLines named.entry.lines.image.now (estimate_of t.now.estimate.image.now) t.now.estimate.boxes b named.entry.lines.k named.entry.lines.n result }
 {
     let e = t.estimate;
     let mut ops = [0u64; 16];
     let mut sent = [0u64; 64];
     let mut listed = [0u8; 128];
-    let c = line_gather::gather(model, e.image, k, n, &mut ops, &mut sent, &mut listed);
+    let c = line_gather::gather(named, e.image, &mut ops, &mut sent, &mut listed);
     names_pass(e, b, &ops)
         && outputs_pass(e, b, ops[Op::Output as usize], &sent)
-        && list_passes(model, t, k, b, &listed[..c])
+        && list_passes(named, t, b, &listed[..c])
 }

@@ -81,7 +81,7 @@ pub fn clause2(estimate: &[u8], b: usize, s: Site) -> Result<(), NameNo>
     subsets::missing(s.names, estimate::eps(estimate, b, s.subject))
 }
 
-// 3. restriction of n: n in rho(n).
+// 3. restriction of n: n in rho(n). Clauses 1 and 7 ask it too, in one call each.
 #[tactic(auto, using(crate::proofs::Members::shorts), unfolding(definitions::specs::Clauses::clause3))]
 pub fn clause3(estimate: &[u8], l: Line) -> Result<(), NameNo>
     requires there { 512 ≤ length estimate.now }
@@ -121,7 +121,7 @@ pub fn types_missing(estimate: &[u8], s: u64, x: u64) -> Result<(), NameNo>
     at_each(s, |g| subsets::missing(estimate::rho(estimate, g), x))
 }
 
-// The same as a test, for callers that need no name.
+// The same as a test, for callers that need no name. As own_within: each is the test of its own walk, and the two walks ask different things.
 pub fn types_within(estimate: &[u8], s: u64, x: u64) -> bool
     requires there { 512 ≤ length estimate.now }
     requires names { NamesOnly s }

@@ -1,25 +1,23 @@
 -- Laws of the numbers with which moves are refused: each test by what the code finds. Assumes nothing.
 use mathlib.Core.Path.{◌≡◌, refl, ap, sym, ◌∙◌}
-use mathlib.Core.Logic.{◌≢◌}
-use mathlib.Core.Bool.{Bool, true, false, ◌&&◌}
+use mathlib.Core.Bool.{Bool, true, false, not, ◌&&◌}
 use mathlib.Core.List.{List, []}
 use mathlib.Core.Option.{Option, none, some}
 use Prim.Native.Nat.{ℕ, suc, ◌≤◌, ◌<◌}
 use native.Mathlib.Omega.{arith}
-use lib.Dec.{T, eqb}
+use lib.Dec.{T, eqb, ltb}
 use Rattle.definitions.specs.Bounded.{◌and◌, ◌is◌, ◌isnt◌, ◌below◌}
 use Rattle.definitions.specs.Model.{Box, nil, parallel, replication, restriction, output, input, expose}
 use Rattle.definitions.specs.Model as model
-use Rattle.definitions.specs.Record.{stamp_limit, stamp, threads, sites, thread, put_thread, take_thread}
-use Rattle.definitions.specs.Moves as moves
-use Rattle.definitions.specs.Moves.{Outcome, refused, made, need, on_made, site_with, found, at, thread_line, onward, onward_with, value1, value2, at_line, drop_move, spread_move, new_move, copy_move, expose_move, turn_move, intra_move}
+use Rattle.definitions.specs.Record.{stamp_limit, stamp, threads, sites, take_thread}
+use Rattle.definitions.specs.Moves.{Outcome, refused, made, need, on_made, site_with, found, thread_line, value1, at_line, drop_move, spread_move, new_move, copy_move, expose_move, turn_move, intra_move}
 use Rattle.definitions.specs.Calls.{outcome_number}
-use Rattle.definitions.proofs.Bounded.{and_is, and_iff, is_iff, isnt_iff, below_iff, true_of, of_true, false_of, not-false}
+use Rattle.definitions.proofs.Bounded.{and_is, and_iff, is_iff, below_iff, true_of, of_true, false_of, not-false}
 use Rattle.records.specs.declared.Line.{Line}
 use Rattle.records.specs.Records.{line_in}
 use Rattle.deciding.specs.declared.Blocked.{Blocked}
 use Rattle.deciding.specs.declared.Blocked.TheVariants.{Nobody, WithSelf, WrongLine, Channel, NoSite, Unfit, Private, Full, Spent}
-use Rattle.deciding.specs.Numbers.{blocked_number, unless, passed, line_number, turn_number, channel_number}
+use Rattle.deciding.specs.Numbers.{blocked_number, unless, passed, line_number, turn_number}
 
 -- ---- a test in front of others
 
@@ -67,49 +65,51 @@ pub need_met : (b : Bool) (m : ℕ) → 0 ≡ unless b (suc m) → T b
 need_met true m e = tt
 need_met false m e = absurd (omega (arith, e))
 
+-- the code's test is the definition's, in front of others or alone
+pub tested_stop : {A : Type 0} (n : Blocked) (b c : Bool) (m : ℕ) (o : Outcome A) → b ≡ c → blocked_number n ≡ unless b m → blocked_number n ≡ outcome_number (need c m o)
+tested_stop n b c m o q e = need_stop n c m o (e ∙ ap (λ (z : Bool). unless z m) q)
+
+pub tested_goes : {A : Type 0} (b c : Bool) (m v : ℕ) (o : Outcome A) → b ≡ c → 0 ≡ unless b (suc m) → v ≡ outcome_number o → v ≡ outcome_number (need c (suc m) o)
+tested_goes b c m v o q z e = e ∙ sym (need_yes c (suc m) o (need_met c m (z ∙ ap (λ (y : Bool). unless y (suc m)) q)))
+
 -- ---- room for a thread, and a stamp
 
-pub room_left : (m n : ℕ) → m ≡ n → m < 16 → 0 ≡ unless (n below 16) 19
-room_left m n e h = sym (ap (λ (b : Bool). unless b 19) (true_of (n below 16) ((below_iff n 16).1 (omega arith))))
+pub room_is : (m n v : ℕ) → m ≡ n → v ≡ unless (ltb m 16) 19 → v ≡ unless (n below 16) 19
+unfolding ◌below◌
+room_is m n v e h = h ∙ ap (λ (k : ℕ). unless (ltb k 16) 19) e
 
-pub room_full : (m n : ℕ) → m ≡ n → 16 ≤ m → 19 ≡ unless (n below 16) 19
-room_full m n e h =
-    sym (ap (λ (b : Bool). unless b 19) (false_of (n below 16) (λ t. let q = (below_iff n 16).0 t in omega arith)))
-
-pub stamp_there : (s n : ℕ) (b : Bool) → s ≡ n → b ≡ (s below stamp_limit) → b ≡ true → 0 ≡ unless (n below stamp_limit) 20
-stamp_there s n b e d t = ap (λ (c : Bool). unless c 20) (sym t ∙ d) ∙ ap (λ (m : ℕ). unless (m below stamp_limit) 20) e
-
-pub stamp_spent : (s n : ℕ) (b : Bool) → s ≡ n → b ≡ (s below stamp_limit) → b ≡ false → 20 ≡ unless (n below stamp_limit) 20
-stamp_spent s n b e d t = ap (λ (c : Bool). unless c 20) (sym t ∙ d) ∙ ap (λ (m : ℕ). unless (m below stamp_limit) 20) e
+pub stamp_is : (s n v : ℕ) (b : Bool) → s ≡ n → b ≡ (s below stamp_limit) → v ≡ unless b 20 → v ≡ unless (n below stamp_limit) 20
+stamp_is s n v b e d h = h ∙ ap (λ (c : Bool). unless c 20) d ∙ ap (λ (m : ℕ). unless (m below stamp_limit) 20) e
 
 -- ---- a thread at a line
+
+pub op_met : (a op : ℕ) → 0 ≡ unless (eqb a op) 14 → a ≡ op
+unfolding ◌is◌
+op_met a op z = (is_iff a op).0 (need_met (a is op) 13 z)
 
 module _ (kinds : List ℕ) (x : Box) (r : List ℕ) (t op : ℕ) where
   tests : Bool → Bool → Outcome (List ℕ) → Outcome (List ℕ)
   tests a b o = need a 12 (need b 14 o)
 
-  pub line-nobody : (n : ℕ) → n ≡ threads r → n ≤ t → 12 ≡ line_number kinds x r t op
+  pub line-nobody : threads r ≤ t → 12 ≡ line_number kinds x r t op
   unfolding line_number at_line
-  line-nobody n e h = need_no (t below threads r) 12 _ (λ u. let q = (below_iff t (threads r)).0 u in omega arith)
+  line-nobody h = need_no (t below threads r) 12 _ (λ u. let q = (below_iff t (threads r)).0 u in omega arith)
 
-  module _ (n : ℕ) (l : Line) (e : n ≡ threads r) (h : t < n) (q : line_in l ≡ thread_line kinds x r t) where
+  module _ (l : Line) (h : t < threads r) (q : line_in l ≡ thread_line kinds x r t) where
     live : T (t below threads r)
-    live = (below_iff t (threads r)).1 (omega arith)
+    live = (below_iff t (threads r)).1 h
 
-    op_is : l.op ≡ (thread_line kinds x r t).op
-    op_is = ap (λ (k : model.Line). k.op) q
+    op_is : eqb l.op op ≡ ((thread_line kinds x r t).op is op)
+    unfolding ◌is◌
+    op_is = ap (λ (k : model.Line). eqb k.op op) q
 
-    pub line-is : l.op ≡ op → 0 ≡ line_number kinds x r t op
+    pub line-is : 0 ≡ unless (eqb l.op op) 14 → 0 ≡ line_number kinds x r t op
     unfolding line_number at_line
-    line-is z =
-        sym (need_yes (t below threads r) 12 _ live
-        ∙ need_yes ((thread_line kinds x r t).op is op) 14 passed ((is_iff (thread_line kinds x r t).op op).1 (sym op_is ∙ z)))
+    line-is z = tested_goes (eqb l.op op) ((thread_line kinds x r t).op is op) 13 0 passed op_is z refl ∙ sym (need_yes (t below threads r) 12 _ live)
 
-    pub line-wrong : l.op ≢ op → 14 ≡ line_number kinds x r t op
+    pub line-wrong : (n : Blocked) → blocked_number n ≡ unless (eqb l.op op) 14 → blocked_number n ≡ line_number kinds x r t op
     unfolding line_number at_line
-    line-wrong z =
-        need_no ((thread_line kinds x r t).op is op) 14 passed (λ u. z (op_is ∙ (is_iff (thread_line kinds x r t).op op).0 u))
-        ∙ sym (need_yes (t below threads r) 12 _ live)
+    line-wrong n z = tested_stop n (eqb l.op op) ((thread_line kinds x r t).op is op) 14 passed op_is z ∙ sym (need_yes (t below threads r) 12 _ live)
 
   -- an allowed line says that the thread is there, at the line
   zero_of : (a b : Bool) → 0 ≡ outcome_number (tests a b passed) → T a × T b
@@ -121,12 +121,6 @@ module _ (kinds : List ℕ) (x : Box) (r : List ℕ) (t op : ℕ) where
   at_zero : 0 ≡ line_number kinds x r t op → T (t below threads r) × T ((thread_line kinds x r t).op is op)
   unfolding line_number at_line tests
   at_zero z = zero_of (t below threads r) ((thread_line kinds x r t).op is op) z
-
-  pub zero_live : 0 ≡ line_number kinds x r t op → t < threads r
-  zero_live z = (below_iff t (threads r)).0 (at_zero z).0
-
-  pub zero-line : 0 ≡ line_number kinds x r t op → (thread_line kinds x r t).op ≡ op
-  zero-line z = (is_iff (thread_line kinds x r t).op op).0 (at_zero z).1
 
   -- a move that asks for a line first: refused for the line, or as what comes next
   pub line_stops : (n : Blocked) (o : Outcome (List ℕ)) → blocked_number n ≡ line_number kinds x r t op
@@ -190,16 +184,19 @@ module _ (kinds : List ℕ) (x : Box) (r : List ℕ) (t : ℕ) where
   copy_number v z e = line_goes kinds x r t replication v _ z (e ∙ sym (need-last (threads r below 16) 19 _))
 
   module _ (n : ℕ) (z : 0 ≡ line_number kinds x r t expose) (d : n ≡ sites r) where
-    pub expose_full : 16 ≤ n → 19 ≡ outcome_number (expose_move kinds x r t)
-    unfolding expose_move
-    expose_full h =
-        line_goes kinds x r t expose 19 _ z (need_no (sites r below 16) 19 _ (λ q. let p = (below_iff (sites r) 16).0 q in omega arith))
+    same_sites : ltb n 16 ≡ (sites r below 16)
+    unfolding ◌below◌
+    same_sites = ap (λ (k : ℕ). ltb k 16) d
 
-    pub expose_number : (v : ℕ) → n < 16 → v ≡ unless (stamp r below stamp_limit) 20 → v ≡ outcome_number (expose_move kinds x r t)
+    pub expose_full : (b : Blocked) → blocked_number b ≡ unless (ltb n 16) 19 → blocked_number b ≡ outcome_number (expose_move kinds x r t)
+    unfolding expose_move
+    expose_full b h = line_goes kinds x r t expose (blocked_number b) _ z (tested_stop b (ltb n 16) (sites r below 16) 19 _ same_sites h)
+
+    pub expose_number : (v : ℕ) → 0 ≡ unless (ltb n 16) 19 → v ≡ unless (stamp r below stamp_limit) 20 → v ≡ outcome_number (expose_move kinds x r t)
     unfolding expose_move
     expose_number v h e =
-        line_goes kinds x r t expose v _ z (e ∙ sym (need-last (stamp r below stamp_limit) 20 _)
-        ∙ sym (need_yes (sites r below 16) 19 _ ((below_iff (sites r) 16).1 (omega arith))))
+        line_goes kinds x r t expose v _ z
+        (tested_goes (ltb n 16) (sites r below 16) 18 v _ same_sites h (e ∙ sym (need-last (stamp r below stamp_limit) 20 _)))
 
   pub turn_number_lem : (op before after v : ℕ) → v ≡ turn_number kinds x r op before t → v ≡ outcome_number (turn_move kinds x r op before after t)
   unfolding turn_number turn_move at_line
@@ -209,12 +206,7 @@ module _ (kinds : List ℕ) (x : Box) (r : List ℕ) (t : ℕ) where
       q ∙ need-same (t below threads r) 12 (need lined 14 (need sited 16 passed)) _
       (need-same lined 14 (need sited 16 passed) _ (need-same sited 16 passed (made _) refl))
 
-module _ (kinds : List ℕ) (x : Box) (r : List ℕ) (op before t v : ℕ) (l : Line) (z : 0 ≡ line_number kinds x r t op)
-    (q : line_in l ≡ thread_line kinds x r t) (d : v ≡ moves.value_in kinds (thread r t) l.name1.0) where
-  channel : v ≡ value1 kinds x r t
-  unfolding value1
-  channel = d ∙ ap (λ (k : model.Line). moves.value_in kinds (thread r t) k.name1) q
-
+module _ (kinds : List ℕ) (x : Box) (r : List ℕ) (op before t v : ℕ) (z : 0 ≡ line_number kinds x r t op) (channel : v ≡ value1 kinds x r t) where
   there : (o : Option ℕ) → o ≡ site_with r v before → found o ≡ found (site_with r (value1 kinds x r t) before)
   there o w = ap found (w ∙ ap (λ (n : ℕ). site_with r n before) channel)
 
@@ -248,83 +240,64 @@ module _ (l k : Line) (n m : model.Line) (q : line_in l ≡ n) (p : line_in k �
         e ∙ sym (need_yes (n.op is input and m.op is output) 14 o
         (need_met (n.op is input and m.op is output) 13 (z ∙ ap (λ (y : Bool). unless y 14) same-lines)))
 
-pub lines_met : (a b : ℕ) (t : Bool) → t ≡ (eqb a 5 && eqb b 4) → t ≡ true → 0 ≡ unless (a is input and b is output) 14
+pub lines_is : (a b v : ℕ) (t : Bool) → v ≡ unless t 14 → t ≡ (eqb a 5 && eqb b 4) → v ≡ unless (a is input and b is output) 14
 unfolding ◌is◌
-lines_met a b t e d = ap (λ (z : Bool). unless z 14) (sym d ∙ e ∙ and_is (eqb a 5) (eqb b 4))
+lines_is a b v t e d = e ∙ ap (λ (z : Bool). unless z 14) (d ∙ and_is (eqb a 5) (eqb b 4))
 
-pub lines_wrong : (a b : ℕ) (t : Bool) → t ≡ (eqb a 5 && eqb b 4) → t ≡ false → 14 ≡ unless (a is input and b is output) 14
-unfolding ◌is◌
-lines_wrong a b t e d = ap (λ (z : Bool). unless z 14) (sym d ∙ e ∙ and_is (eqb a 5) (eqb b 4))
+module _ (a b : ℕ) (z : 0 ≡ unless (eqb a 5 && eqb b 4) 14) where
+  lines_met : T (a is input) × T (b is output)
+  unfolding ◌is◌
+  lines_met = (and_iff (eqb a 5) (eqb b 4)).0 (need_met (eqb a 5 and eqb b 4) 13 (z ∙ ap (λ (y : Bool). unless y 14) (and_is (eqb a 5) (eqb b 4))))
+
+  pub first_met : a ≡ 5
+  first_met = (is_iff a 5).0 lines_met.0
+
+  pub second_met : b ≡ 4
+  second_met = (is_iff b 4).0 lines_met.1
 
 -- ---- intra
 
 module _ (kinds : List ℕ) (x : Box) (r : List ℕ) (t u : ℕ) where
-  module _ (l k : Line) (q : line_in l ≡ thread_line kinds x r t) (p : line_in k ≡ thread_line kinds x r u) where
-    pub channel_wrong : (n : Blocked) → blocked_number n ≡ unless (l.op is input and k.op is output) 14 → blocked_number n ≡ channel_number kinds x r t u
-    unfolding channel_number
-    channel_wrong n e = lines_stop l k (thread_line kinds x r t) (thread_line kinds x r u) q p _ n e
+  pub intra_nobody : threads r ≤ t → 12 ≡ outcome_number (intra_move kinds x r t u)
+  unfolding intra_move
+  intra_nobody h =
+      need_no (t below threads r and u below threads r) 12 _
+      (λ z. let q = (below_iff t (threads r)).0 ((and_iff (t below threads r) (u below threads r)).0 z).0 in omega arith)
 
-    module _ (v w : ℕ) (z : 0 ≡ unless (l.op is input and k.op is output) 14) (d : v ≡ moves.value_in kinds (thread r t) l.name1.0)
-        (e : w ≡ moves.value_in kinds (thread r u) k.name1.0) where
-      first : v ≡ value1 kinds x r t
-      unfolding value1
-      first = d ∙ ap (λ (n : model.Line). moves.value_in kinds (thread r t) n.name1) q
+  pub intra_nobody2 : threads r ≤ u → 12 ≡ outcome_number (intra_move kinds x r t u)
+  unfolding intra_move
+  intra_nobody2 h =
+      need_no (t below threads r and u below threads r) 12 _
+      (λ z. let q = (below_iff u (threads r)).0 ((and_iff (t below threads r) (u below threads r)).0 z).1 in omega arith)
 
-      second : w ≡ value1 kinds x r u
-      unfolding value1
-      second = e ∙ ap (λ (n : model.Line). moves.value_in kinds (thread r u) n.name1) p
+  module _ (h : t < threads r) (g : u < threads r) where
+    goes : (v : ℕ) (o : Outcome (List ℕ)) → v ≡ outcome_number o → v ≡ outcome_number (need (t below threads r and u below threads r) 12 o)
+    goes v o e =
+        e ∙ sym (need_yes (t below threads r and u below threads r) 12 o
+        ((and_iff (t below threads r) (u below threads r)).1 ((below_iff t (threads r)).1 h, (below_iff u (threads r)).1 g)))
 
-      matched : eqb v w ≡ (value1 kinds x r t is value1 kinds x r u)
-      unfolding ◌is◌
-      matched = ap (λ (n : ℕ). eqb n w) first ∙ ap (λ (n : ℕ). eqb (value1 kinds x r t) n) second
+    differ : not (eqb t u) ≡ (t isnt u)
+    unfolding ◌isnt◌
+    differ = refl
 
-      next : (a : ℕ) → a ≡ unless (value1 kinds x r t is value1 kinds x r u) 15 → a ≡ channel_number kinds x r t u
-      unfolding channel_number
-      next a h =
-          lines_go l k (thread_line kinds x r t) (thread_line kinds x r u) q p _ a z (h ∙ sym (need-last (value1 kinds x r t is value1 kinds x r u) 15 []))
-
-      pub channel_same : (a : Bool) → a ≡ eqb v w → a ≡ true → 0 ≡ channel_number kinds x r t u
-      channel_same a h y = next 0 (ap (λ (b : Bool). unless b 15) (sym y ∙ h ∙ matched))
-
-      pub channel_other : (a : Bool) → a ≡ eqb v w → a ≡ false → 15 ≡ channel_number kinds x r t u
-      channel_other a h y = next 15 (ap (λ (b : Bool). unless b 15) (sym y ∙ h ∙ matched))
-
-  module _ (n : ℕ) (e : n ≡ threads r) where
-    pub intra_nobody : n ≤ t → 12 ≡ outcome_number (intra_move kinds x r t u)
+    pub intra_self : (n : Blocked) → blocked_number n ≡ unless (not (eqb t u)) 13 → blocked_number n ≡ outcome_number (intra_move kinds x r t u)
     unfolding intra_move
-    intra_nobody h =
-        need_no (t below threads r and u below threads r) 12 _
-        (λ z. let q = (below_iff t (threads r)).0 ((and_iff (t below threads r) (u below threads r)).0 z).0 in omega arith)
+    intra_self n e = goes (blocked_number n) _ (tested_stop n (not (eqb t u)) (t isnt u) 13 _ differ e)
 
-    pub intra_nobody2 : n ≤ u → 12 ≡ outcome_number (intra_move kinds x r t u)
-    unfolding intra_move
-    intra_nobody2 h =
-        need_no (t below threads r and u below threads r) 12 _
-        (λ z. let q = (below_iff u (threads r)).0 ((and_iff (t below threads r) (u below threads r)).0 z).1 in omega arith)
+    module _ (l k : Line) (q : line_in l ≡ thread_line kinds x r t) (p : line_in k ≡ thread_line kinds x r u) (s : 0 ≡ unless (not (eqb t u)) 13) where
+      pub intra_wrong : (n : Blocked) → blocked_number n ≡ unless (l.op is input and k.op is output) 14
+          → blocked_number n ≡ outcome_number (intra_move kinds x r t u)
+      unfolding intra_move
+      intra_wrong n e =
+          goes (blocked_number n) _
+          (tested_goes (not (eqb t u)) (t isnt u) 12 (blocked_number n) _ differ s (lines_stop l k (thread_line kinds x r t) (thread_line kinds x r u) q p _ n e))
 
-    module _ (h : t < n) (l : u < n) where
-      both : T (t below threads r and u below threads r)
-      both = (and_iff (t below threads r) (u below threads r)).1 ((below_iff t (threads r)).1 (omega arith), (below_iff u (threads r)).1 (omega arith))
-
-      lines : Bool
-      lines = (thread_line kinds x r t).op is input and (thread_line kinds x r u).op is output
-
-      one : Bool
-      one = value1 kinds x r t is value1 kinds x r u
-
-      lined : Outcome (List ℕ)
-      lined =
-          need lines 14 (need one 15
-          (made (put_thread (put_thread r t (onward_with kinds x r t (thread_line kinds x r t).name2 (value2 kinds x r u))) u (onward kinds x r u))))
-
-      pub intra_self : t ≡ u → 13 ≡ outcome_number (intra_move kinds x r t u)
-      unfolding intra_move lines one lined
-      intra_self z =
-          need_no (t isnt u) 13 lined (λ q. (isnt_iff t u).0 q z)
-          ∙ sym (need_yes (t below threads r and u below threads r) 12 (need (t isnt u) 13 lined) both)
-
-      pub intra_number : (v : ℕ) → t ≢ u → v ≡ channel_number kinds x r t u → v ≡ outcome_number (intra_move kinds x r t u)
-      unfolding intra_move channel_number lines one lined
-      intra_number v z q =
-          q ∙ need-same lines 14 (need one 15 passed) _ (need-same one 15 passed (made _) refl)
-          ∙ sym (need_yes (t below threads r and u below threads r) 12 (need (t isnt u) 13 lined) both ∙ need_yes (t isnt u) 13 lined ((isnt_iff t u).1 z))
+      pub intra_number : (v w a : ℕ) (b : Bool) → 0 ≡ unless (l.op is input and k.op is output) 14 → v ≡ value1 kinds x r t → w ≡ value1 kinds x r u
+          → b ≡ eqb v w → a ≡ unless b 15 → a ≡ outcome_number (intra_move kinds x r t u)
+      unfolding intra_move ◌is◌
+      intra_number v w a b z first second f e =
+          goes a _
+          (tested_goes (not (eqb t u)) (t isnt u) 12 a _ differ s
+          (lines_go l k (thread_line kinds x r t) (thread_line kinds x r u) q p _ a z
+          (e ∙ ap (λ (c : Bool). unless c 15) (f ∙ ap (λ (n : ℕ). eqb n w) first ∙ ap (λ (n : ℕ). eqb (value1 kinds x r t) n) second)
+          ∙ sym (need-last (eqb (value1 kinds x r t) (value1 kinds x r u)) 15 _))))

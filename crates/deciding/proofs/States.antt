@@ -4,8 +4,9 @@ use mathlib.Core.Logic.{◌≢◌}
 use mathlib.Core.Bool.{Bool, true, false}
 use mathlib.Core.List.{List}
 use Prim.Native.Nat.{ℕ, zero, suc, ◌+◌, ◌*◌, ◌≤◌, ◌<◌}
+use native.Mathlib.Decide.{dec_lt}
 use native.Mathlib.Omega.{arith}
-use lib.Dec.{T}
+use lib.Dec.{T, ltb}
 use Rattle.std.proofs.lemmas.Grind.{merely}
 use lib.ListN.{length}
 use Rattle.definitions.specs.Bounded.{◌and◌, ◌isnt◌, ◌below◌}
@@ -14,7 +15,7 @@ use Rattle.definitions.specs.Image.{boxes_of, model_of}
 use Rattle.definitions.specs.Record.{threads, record_of, put_record, last_stamps}
 use Rattle.definitions.specs.Moves.{Kind, inside, inter, unknown, kind_of_move, Outcome, Ends, need, on_made, inside_move, inter_move, inside_act, inter_act, act_as, act}
 use Rattle.definitions.specs.Calls.{outcome_number}
-use Rattle.definitions.proofs.Bounded.{and_iff, below_iff}
+use Rattle.definitions.proofs.Bounded.{and_iff, below_iff, true_of, false_of}
 use Rattle.definitions.proofs.Image.{model_count}
 use Rattle.definitions.proofs.StateRules.{StateFits, state_iff, record_iff}
 use Rattle.model.specs.declared.ReadModel.{ReadModel}
@@ -22,8 +23,23 @@ use Rattle.lookups.specs.Ready.{BoxReady, Ready}
 use Rattle.lookups.specs.Inside.{inside_as, inside_outcome}
 use Rattle.lookups.proofs.Ready.{read_boxes}
 use Rattle.state.specs.Moves.{move_of}
-use Rattle.deciding.specs.Numbers.{inter_number}
-use Rattle.deciding.proofs.Decided.{need_yes, need_no, need-same, on_made_number}
+use Rattle.deciding.specs.Numbers.{blocked_number, unless, inter_number}
+use Rattle.deciding.specs.declared.Blocked.{Blocked}
+use Rattle.deciding.proofs.Decided.{blocked_not, need_met, need_yes, need_no, need-same, on_made_number}
+
+-- ---- a number below a bound, as the code tests it
+
+pub low_of : (a n : ℕ) → 0 ≡ unless (ltb a n) 12 → a < n
+unfolding ◌below◌
+low_of a n z = (below_iff a n).0 (need_met (a below n) 11 z)
+
+pub past_of : (b : Blocked) (a n m : ℕ) → blocked_number b ≡ unless (ltb a n) m → (n ≤ a) × (blocked_number b ≡ m)
+unfolding ◌below◌
+past_of b a n m e = pick (dec_lt a n)
+  where
+    pick : Dec (a < n) → (n ≤ a) × (blocked_number b ≡ m)
+    pick (yes q) = absurd (blocked_not b (sym (e ∙ ap (λ (z : Bool). unless z m) (true_of (a below n) ((below_iff a n).1 q)))))
+    pick (no q) = (omega arith, e ∙ ap (λ (z : Bool). unless z m) (false_of (a below n) (λ t. q ((below_iff a n).0 t))))
 
 -- ---- a state that obeys the rules: each box's record is in order
 
@@ -90,13 +106,17 @@ module _ (m : ReadModel) (st : List ℕ) (kind b t c u : ℕ) where
   split : T There → T (b below box_count (model_of m.image.now)) × T (c below box_count (model_of m.image.now)) × T (t below threads (record_of st b)) × T (u below threads (record_of st c))
   split z = let p = simp and_iff at z in (p.0.0.0, p.0.0.1, p.0.1, p.1)
 
-  pub act_nobody : m.layout.boxes ≤ b → 12 ≡ outcome_number (act (model_of m.image.now) st (move_of kind b t c u))
+  pub act_nobody : (n : Blocked) → blocked_number n ≡ unless (ltb b m.layout.boxes) 12
+      → blocked_number n ≡ outcome_number (act (model_of m.image.now) st (move_of kind b t c u))
   unfolding act act_as inside_act inter_act
-  act_nobody h = go (kind_of_move kind)
+  act_nobody n e = p.1 ∙ go (kind_of_move kind)
     where
+      p : (m.layout.boxes ≤ b) × (blocked_number n ≡ 12)
+      p = past_of n b m.layout.boxes 12 e
+
       go : (k : Kind) → 12 ≡ outcome_number (act_as (model_of m.image.now) st k (move_of kind b t c u))
-      go (inside i) = need_no (b below box_count (model_of m.image.now)) 12 _ (past b h)
-      go inter = need_no There 12 _ (λ z. past b h (split z).0)
+      go (inside i) = need_no (b below box_count (model_of m.image.now)) 12 _ (past b p.0)
+      go inter = need_no There 12 _ (λ z. past b p.0 (split z).0)
       go unknown = refl
 
   pub act_inside : (x : ℕ) (r : List ℕ) → b < m.layout.boxes → kind ≢ 9 → r ≡ record_of st b
@@ -117,9 +137,10 @@ module _ (m : ReadModel) (st : List ℕ) (kind b t c u : ℕ) where
     unfolding act act_as kind_of_move
     as_inter = ap (λ (k : ℕ). outcome_number (act_as (model_of m.image.now) st (kind_of_move k) (move_of kind b t c u))) nine
 
-    pub act_nobody2 : m.layout.boxes ≤ c → 12 ≡ outcome_number (act (model_of m.image.now) st (move_of kind b t c u))
+    pub act_nobody2 : (n : Blocked) → blocked_number n ≡ unless (ltb c m.layout.boxes) 12
+        → blocked_number n ≡ outcome_number (act (model_of m.image.now) st (move_of kind b t c u))
     unfolding inter_act
-    act_nobody2 h = need_no There 12 _ (λ z. past c h (split z).1) ∙ sym as_inter
+    act_nobody2 n e = let p = past_of n c m.layout.boxes 12 e in p.1 ∙ need_no There 12 _ (λ z. past c p.0 (split z).1) ∙ sym as_inter
 
     pub act_inter : (x : ℕ) (r s : List ℕ) → b < m.layout.boxes → c < m.layout.boxes → r ≡ record_of st b → s ≡ record_of st c
         → x ≡ inter_number (model_of m.image.now).kinds (box_at (model_of m.image.now) b) r (box_at (model_of m.image.now) c) s b t c u

@@ -1,14 +1,10 @@
 -- The number with which a move is refused, or 0, in the pieces that are decided one after the other. Assumes nothing.
-use Rattle.std.specs.Prelude.{Result, Ok, Err, Bool, true, false, not, List, [], ℕ, ◌<◌}
+use Rattle.std.specs.Prelude.{Result, Ok, Err, Bool, true, false, not, List, [], ℕ}
 use Rattle.definitions.specs.Bounded.{◌and◌, ◌is◌, ◌isnt◌, ◌below◌}
-use Rattle.definitions.specs.Limits.{slot_limit}
-use Rattle.definitions.specs.Model.{Box, kind_of_name, output, input}
-use Rattle.definitions.specs.Image.{name_count}
-use Rattle.definitions.specs.Record.{held_number, threads, site, thread}
-use Rattle.definitions.specs.Moves.{Outcome, made, need, site_with, found, at, types_share, value_in, thread_line, value1, at_line, inter_move}
+use Rattle.definitions.specs.Model.{Box, kind_of_name}
+use Rattle.definitions.specs.Record.{held_number, threads, site}
+use Rattle.definitions.specs.Moves.{Outcome, made, need, site_with, found, at, types_share, value1, at_line, inter_move}
 use Rattle.definitions.specs.Calls.{outcome_number}
-use Rattle.model.specs.declared.ReadModel.{ReadModel}
-use Rattle.lookups.specs.Ready.{kinds_in}
 use Rattle.deciding.specs.declared.Blocked.{Blocked}
 use Rattle.deciding.specs.declared.Blocked.TheVariants.{Nobody, WithSelf, WrongLine, Channel, NoSite, Unfit, Private, Full, Spent}
 
@@ -45,12 +41,6 @@ line_number kinds x r t op = outcome_number (at_line kinds x r t op passed)
 unfoldable pub turn_number : List ℕ → Box → List ℕ → ℕ → ℕ → ℕ → ℕ
 turn_number kinds x r op before t = outcome_number (at_line kinds x r t op (need (found (site_with r (value1 kinds x r t) before)) 16 passed))
 
--- intra, once both threads are there and differ: 14 wrong line, 15 channels differ
-unfoldable pub channel_number : List ℕ → Box → List ℕ → ℕ → ℕ → ℕ
-channel_number kinds x r t u =
-    outcome_number (need ((thread_line kinds x r t).op is input and (thread_line kinds x r u).op is output) 14
-    (need (value1 kinds x r t is value1 kinds x r u) 15 passed))
-
 -- inter: the held name that is sent is of kind 1
 unfoldable pub is_private : List ℕ → ℕ → Bool
 is_private kinds sent = kind_of_name kinds (held_number sent) is 1
@@ -70,13 +60,3 @@ channels_number kinds r s v w sent = outcome_number (need (not (is_private kinds
 unfoldable pub inter_number : List ℕ → Box → List ℕ → Box → List ℕ → ℕ → ℕ → ℕ → ℕ → ℕ
 inter_number kinds x r y s b t c u =
     outcome_number (need (t below threads r and u below threads s) 12 (need (b isnt c) 13 (inter_move kinds x r y s t u)))
-
--- what is asked of an end of an inter move: thread t, whose line names p
-pub record EndReady (m : ReadModel) (t p : ℕ) : Type 0 where
-  pub slot : t < slot_limit
-  pub listed : p < name_count m.image.now
-
--- the same of the end that sends with record s, and what it sends is a listed name
-pub record SentReady (m : ReadModel) (s : List ℕ) (u sent : ℕ) : Type 0 where
-  pub end : EndReady m u sent
-  pub value_listed : held_number (value_in (kinds_in m) (thread s u) sent) < name_count m.image.now

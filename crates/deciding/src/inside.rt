@@ -1,7 +1,7 @@
 #![tactic(auto)]
 // Whether a move inside a box is allowed. Reads only.
 // Bounds of indices and counts stand in the clauses: a type for each bound would be taken apart at every use.
-ghost use Rattle.std.specs.Prelude.{◌≡◌, ◌≤◌, ◌<◌, IfOk};
+ghost use Rattle.std.specs.Prelude.{◌≡◌, ◌≤◌, IfOk};
 ghost use Rattle.definitions.specs.Bounded.{◌below◌};
 ghost use Rattle.definitions.specs.Limits.{slot_limit};
 ghost use Rattle.definitions.specs.Record as words;
@@ -10,26 +10,23 @@ ghost use Rattle.definitions.specs.Calls.{outcome_number};
 ghost use Rattle.state.specs.Kinds.{kind_number};
 ghost use Rattle.lookups.specs.Ready.{kinds_in, box_in};
 ghost use Rattle.lookups.specs.Inside.{inside_outcome};
-ghost use Rattle.deciding.specs.Numbers.{blocked_in, unless, line_number, turn_number, channel_number};
+ghost use Rattle.records.specs.Ops.{op_number};
+ghost use Rattle.deciding.specs.Numbers.{blocked_in, unless, line_number, turn_number};
 
 use crate::{Blocked, input_to_output};
-use lookups::{ReadyBox, value};
+use lookups::{ReadyBox, ReadyThread};
 use records::Op;
 use state::kinds::Kind;
 
-// Thread t is there, and at a line of that operation: a number, as a line has it.
+// Thread t, where it is there, and at a line of that operation.
 #[tactic(auto, using(crate::proofs::Rules::lines))]
-fn at_line(x: &ReadyBox<'_>, t: usize, op: u8) -> Result<(), Blocked>
-    ensures { blocked_in result ≡ line_number (kinds_in x.now.model.now) (box_in x.now.model.now x.now.b) x.now.r.now t op }
+fn at_line<'a>(x: &'a ReadyBox<'_>, t: usize, op: Op) -> Result<ReadyThread<'a>, Blocked>
+    ensures answer { blocked_in result ≡ line_number (kinds_in x.now.model.now) (box_in x.now.model.now x.now.b) x.now.r.now t (op_number op) }
+    ensures thread { IfOk result (λ y. (y.of.now ≡ x.now) × (y.t ≡ t) × (y.line.op ≡ op_number op)) }
 {
-    if state::threads(x.r) <= t {
-        return Err(Blocked::Nobody);
-    }
-    if x.thread_line(t).op == op {
-        Ok(())
-    } else {
-        Err(Blocked::WrongLine)
-    }
+    let y = x.thread(t).ok_or(Blocked::Nobody)?;
+    Blocked::WrongLine.unless(y.line.op == op as u8)?;
+    Ok(y)
 }
 
 // There is room for a thread.
@@ -37,11 +34,7 @@ fn at_line(x: &ReadyBox<'_>, t: usize, op: u8) -> Result<(), Blocked>
 fn thread_room(r: &[u32; 1139]) -> Result<(), Blocked>
     ensures { blocked_in result ≡ unless (words.threads r.now below slot_limit) 19 }
 {
-    if state::threads(r) < 16 {
-        Ok(())
-    } else {
-        Err(Blocked::Full)
-    }
+    Blocked::Full.unless(state::threads(r) < 16)
 }
 
 // A stamp is left.
@@ -49,11 +42,7 @@ fn thread_room(r: &[u32; 1139]) -> Result<(), Blocked>
 fn stamp_left(r: &[u32; 1139]) -> Result<(), Blocked>
     ensures { blocked_in result ≡ unless (words.stamp r.now below words.stamp_limit) 20 }
 {
-    if state::stamp_left(state::stamp(r)) {
-        Ok(())
-    } else {
-        Err(Blocked::Spent)
-    }
+    Blocked::Spent.unless(state::stamp_left(state::stamp(r)))
 }
 
 // Expose: a line, room for a site, and a stamp.
@@ -61,61 +50,32 @@ fn stamp_left(r: &[u32; 1139]) -> Result<(), Blocked>
 fn expose(x: &ReadyBox<'_>, t: usize) -> Result<(), Blocked>
     ensures { blocked_in result ≡ outcome_number (moves.expose_move (kinds_in x.now.model.now) (box_in x.now.model.now x.now.b) x.now.r.now t) }
 {
-    at_line(x, t, Op::Expose as u8)?;
-    if state::sites(x.r) >= 16 {
-        return Err(Blocked::Full);
-    }
+    at_line(x, t, Op::Expose)?;
+    Blocked::Full.unless(state::sites(x.r) < 16)?;
     stamp_left(x.r)
 }
 
 // Hide and unhide: a line of the operation, and a site that is shown (0) or hidden (1): before is the record's word.
 #[tactic(auto, using(crate::proofs::Rules::turns))]
-fn turn(x: &ReadyBox<'_>, t: usize, op: u8, before: u32) -> Result<(), Blocked>
-    requires named { 3 ≤ op }
-    ensures { blocked_in result ≡ turn_number (kinds_in x.now.model.now) (box_in x.now.model.now x.now.b) x.now.r.now op before t }
+fn turn(x: &ReadyBox<'_>, t: usize, op: Op, before: u32) -> Result<(), Blocked>
+    requires named { 3 ≤ op_number op }
+    ensures { blocked_in result ≡ turn_number (kinds_in x.now.model.now) (box_in x.now.model.now x.now.b) x.now.r.now (op_number op) before t }
 {
-    at_line(x, t, op)?;
-    let l = x.thread_line(t);
-    let v = value(x.model.image, x.r, t, l.name1);
-    match lookups::site_with(x.r, v, before) {
-        Some(_) => Ok(()),
-        None => Err(Blocked::NoSite),
-    }
+    let y = at_line(x, t, op)?;
+    lookups::site_with(x.r, y.subject(), before).ok_or(Blocked::NoSite)?;
+    Ok(())
 }
 
-// Intra, where both threads are there and differ: their lines, and one channel.
-#[tactic(auto, using(crate::proofs::Rules::channels))]
-fn channel(x: &ReadyBox<'_>, t: usize, u: usize) -> Result<(), Blocked>
-    requires first { t < words.threads x.now.r.now }
-    requires second { u < words.threads x.now.r.now }
-    ensures { blocked_in result ≡ channel_number (kinds_in x.now.model.now) (box_in x.now.model.now x.now.b) x.now.r.now t u }
-{
-    let l = x.thread_line(t);
-    let k = x.thread_line(u);
-    input_to_output(l, k)?;
-    let model = x.model.image;
-    if value(model, x.r, t, l.name1) == value(model, x.r, u, k.name1) {
-        Ok(())
-    } else {
-        Err(Blocked::Channel)
-    }
-}
-
+// Intra: two threads of one box. It begins as `crate::inter` does: each is the equation of one definition.
 #[tactic(auto, using(crate::proofs::Rules::threads))]
 fn intra(x: &ReadyBox<'_>, t: usize, u: usize) -> Result<(), Blocked>
     ensures { blocked_in result ≡ outcome_number (moves.intra_move (kinds_in x.now.model.now) (box_in x.now.model.now x.now.b) x.now.r.now t u) }
 {
-    let n = state::threads(x.r);
-    if n <= t {
-        return Err(Blocked::Nobody);
-    }
-    if n <= u {
-        return Err(Blocked::Nobody);
-    }
-    if t == u {
-        return Err(Blocked::WithSelf);
-    }
-    channel(x, t, u)
+    let y = x.thread(t).ok_or(Blocked::Nobody)?;
+    let z = x.thread(u).ok_or(Blocked::Nobody)?;
+    Blocked::WithSelf.unless(t != u)?;
+    input_to_output(&y, &z)?;
+    Blocked::Channel.unless(y.subject() == z.subject())
 }
 
 // A move of a kind; an inter is not made in a box.
@@ -124,22 +84,25 @@ fn of_kind(x: &ReadyBox<'_>, kind: Kind, t: usize, u: usize) -> Result<(), Block
     ensures { blocked_in result ≡ outcome_number (inside_outcome (kinds_in x.now.model.now) (box_in x.now.model.now x.now.b) x.now.r.now (kind_number kind) t u) }
 {
     match kind {
-        Kind::Drop => at_line(x, t, Op::Nil as u8),
+        Kind::Drop => {
+            at_line(x, t, Op::Nil)?;
+            Ok(())
+        }
         Kind::Spread => {
-            at_line(x, t, Op::Parallel as u8)?;
+            at_line(x, t, Op::Parallel)?;
             thread_room(x.r)
         }
         Kind::New => {
-            at_line(x, t, Op::Restriction as u8)?;
+            at_line(x, t, Op::Restriction)?;
             stamp_left(x.r)
         }
         Kind::Copy => {
-            at_line(x, t, Op::Replication as u8)?;
+            at_line(x, t, Op::Replication)?;
             thread_room(x.r)
         }
         Kind::Expose => expose(x, t),
-        Kind::Hide => turn(x, t, Op::Hide as u8, 0),
-        Kind::Unhide => turn(x, t, Op::Unhide as u8, 1),
+        Kind::Hide => turn(x, t, Op::Hide, 0),
+        Kind::Unhide => turn(x, t, Op::Unhide, 1),
         Kind::Intra => intra(x, t, u),
         Kind::Inter => Err(Blocked::Nobody),
     }
@@ -151,9 +114,7 @@ pub fn allowed(x: &ReadyBox<'_>, kind: u32, t: usize, u: usize) -> Result<Kind, 
     ensures answer { blocked_in result ≡ outcome_number (inside_outcome (kinds_in x.now.model.now) (box_in x.now.model.now x.now.b) x.now.r.now kind t u) }
     ensures kind { IfOk result (λ k. kind_number k ≡ kind) }
 {
-    let Ok(kind) = Kind::try_from(kind) else {
-        return Err(Blocked::Nobody);
-    };
+    let kind = Kind::try_from(kind)?;
     of_kind(x, kind, t, u)?;
     Ok(kind)
 }

@@ -1,7 +1,7 @@
 #![tactic(auto)]
 // Whether a move is allowed. Reads only.
 // Bounds of indices and counts stand in the clauses: a type for each bound would be taken apart at every use.
-ghost use Rattle.std.specs.Prelude.{◌≡◌, ◌<◌, IfOk};
+ghost use Rattle.std.specs.Prelude.{◌≡◌, IfOk};
 ghost use Rattle.definitions.specs.Bounded.{◌and◌, ◌is◌};
 ghost use Rattle.definitions.specs.Answer.{refusal};
 ghost use Rattle.definitions.specs.Model.{output, input};
@@ -13,14 +13,14 @@ ghost use Rattle.refusals.specs.Answers.{refusal_in};
 ghost use Rattle.state.specs.Kinds.{kind_number};
 ghost use Rattle.state.specs.Moves.{turn_in};
 ghost use Rattle.lookups.specs.Ready.{kinds_in, box_in, Ready};
-ghost use Rattle.deciding.specs.Numbers.{blocked_number, blocked_in, unless, is_private, site_tests, channels_number, EndReady, SentReady, inter_number};
+ghost use Rattle.lookups.specs.Threads.{subject_of, sent_of};
+ghost use Rattle.deciding.specs.Numbers.{blocked_number, blocked_in, unless, is_private, site_tests, channels_number, inter_number};
 
-use lookups::{ReadyBox, value};
+use lookups::{ReadyBox, ReadyThread};
 use model::ReadModel;
-use records::{Line, NameKind, Op};
+use records::{NameKind, Op};
 use refusals::Refusal;
-use sets::NameNo;
-use state::kinds::Kind;
+use state::kinds::{Kind, UnknownKind};
 use state::moves::Turn;
 
 pub mod inside;
@@ -48,6 +48,24 @@ pub enum Blocked {
     Spent = 20,
 }
 
+impl Blocked {
+    // This refusal, unless a test passes.
+    fn unless(self, ok: bool) -> Result<(), Blocked>
+        ensures { blocked_in result ≡ unless ok (blocked_number self) }
+    {
+        if ok { Ok(()) } else { Err(self) }
+    }
+}
+
+// A number of no kind of move.
+impl From<UnknownKind> for Blocked {
+    ghost from_gives = { λ k n. blocked_number n ≡ 12 };
+
+    fn from(_: UnknownKind) -> Blocked {
+        Blocked::Nobody
+    }
+}
+
 // A refused move, as a refusal: it has no places.
 impl From<Blocked> for Refusal {
     ghost from_gives = { λ n r. refusal_in r ≡ refusal (blocked_number n) 0 0 };
@@ -72,108 +90,76 @@ pub fn number(answer: Result<(), Blocked>) -> u8
     }
 }
 
+// A communication of an inter: a thread at an input, and a thread at an output.
+#[derive(Clone, Copy)]
+struct Communication<'a> {
+    receiver: ReadyThread<'a>,
+    sender: ReadyThread<'a>,
+    ghost receives: { receiver.line.op ≡ input },
+    ghost sends: { sender.line.op ≡ output },
+}
+
 // Intra and inter: the first thread is at an input, and the second at an output.
 #[tactic(auto, using(crate::proofs::Rules::meets))]
-fn input_to_output(l: Line, k: Line) -> Result<(), Blocked>
-    ensures { blocked_in result ≡ unless (l.op is input and k.op is output) 14 }
+fn input_to_output(x: &ReadyThread<'_>, y: &ReadyThread<'_>) -> Result<(), Blocked>
+    ensures answer { blocked_in result ≡ unless (x.now.line.op is input and y.now.line.op is output) 14 }
+    ensures ends { IfOk result (λ u. (x.now.line.op ≡ input) × (y.now.line.op ≡ output)) }
 {
-    if (l.op == Op::Input as u8) & (k.op == Op::Output as u8) {
-        Ok(())
-    } else {
-        Err(Blocked::WrongLine)
+    Blocked::WrongLine.unless((x.line.op == Op::Input as u8) & (y.line.op == Op::Output as u8))
+}
+
+// In place: as calls, they have both boxes and threads written to the stack first, also where the move is refused before.
+impl Communication<'_> {
+    // Inter: the name that is sent is of kind 1.
+    #[inline(always)]
+    #[tactic(auto, using(crate::proofs::Rules::sends))]
+    fn private(&self) -> bool
+        ensures { result ≡ is_private (kinds_in self.now.sender.of.now.model.now) (sent_of self.now.sender) }
+    {
+        let model = self.sender.of.model.image;
+        records::inside::kind(model, state::number(self.sender.sent()))
+            == NameKind::Restricted as u64
+    }
+
+    // Inter: the channels stand for shown sites of their own boxes, whose types share a held name.
+    #[inline(always)]
+    #[tactic(auto, using(crate::proofs::Rules::ends))]
+    fn sites(&self) -> Result<(), Blocked>
+        ensures { blocked_in result ≡ outcome_number (site_tests self.now.receiver.of.now.r.now self.now.sender.of.now.r.now (subject_of self.now.receiver) (subject_of self.now.sender)) }
+    {
+        let r = self.receiver.of.r;
+        let s = self.sender.of.r;
+        let i = lookups::site_with(r, self.receiver.subject(), 0).ok_or(Blocked::NoSite)?;
+        let j = lookups::site_with(s, self.sender.subject(), 0).ok_or(Blocked::NoSite)?;
+        Blocked::Unfit.unless(lookups::types_share(r, i, s, j))
+    }
+
+    // Inter: the kind of the name that is sent, and then the sites.
+    #[inline(always)]
+    #[tactic(auto, using(crate::proofs::Rules::ends))]
+    fn channels(&self) -> Result<(), Blocked>
+        ensures { blocked_in result ≡ channels_number (kinds_in self.now.sender.of.now.model.now) self.now.receiver.of.now.r.now self.now.sender.of.now.r.now (subject_of self.now.receiver) (subject_of self.now.sender) (sent_of self.now.sender) }
+    {
+        Blocked::Private.unless(!self.private())?;
+        self.sites()
     }
 }
 
-// Inter: the name that thread u would send is of kind 1.
-#[tactic(auto, using(crate::proofs::Rules::sends))]
-fn private(y: &ReadyBox<'_>, u: usize, sent: NameNo) -> bool
-    requires { SentReady y.now.model.now y.now.r.now u sent.0 }
-    ensures { result ≡ is_private (kinds_in y.now.model.now) (moves.value_in (kinds_in y.now.model.now) (words.thread y.now.r.now u) sent.0) }
-{
-    let v = value(y.model.image, y.r, u, sent);
-    records::inside::kind(y.model.image, state::number(v)) == NameKind::Restricted as u64
-}
-
-// A thread and its line are two parameters: the line is read of the thread once, and stands in registers.
-
-// Inter: what the channels p and q stand for are shown sites of their own boxes, whose types share a held name.
-#[tactic(auto, using(crate::proofs::Rules::ends))]
-fn sites(
-    x: &ReadyBox<'_>,
-    t: usize,
-    p: NameNo,
-    y: &ReadyBox<'_>,
-    u: usize,
-    q: NameNo,
-) -> Result<(), Blocked>
-    requires first { EndReady x.now.model.now t p.0 }
-    requires second { EndReady y.now.model.now u q.0 }
-    ensures { blocked_in result ≡ outcome_number (site_tests x.now.r.now y.now.r.now (moves.value_in (kinds_in x.now.model.now) (words.thread x.now.r.now t) p.0) (moves.value_in (kinds_in y.now.model.now) (words.thread y.now.r.now u) q.0)) }
-{
-    let Some(i) = lookups::site_with(x.r, value(x.model.image, x.r, t, p), 0) else {
-        return Err(Blocked::NoSite);
-    };
-    let Some(j) = lookups::site_with(y.r, value(y.model.image, y.r, u, q), 0) else {
-        return Err(Blocked::NoSite);
-    };
-    if lookups::types_share(x.r, i, y.r, j) {
-        Ok(())
-    } else {
-        Err(Blocked::Unfit)
-    }
-}
-
-// Inter, once both threads are at their lines l and k: the kind of the name that is sent, and then the sites.
-#[tactic(auto, using(crate::proofs::Rules::ends))]
-fn channels(
-    x: &ReadyBox<'_>,
-    t: usize,
-    l: Line,
-    y: &ReadyBox<'_>,
-    u: usize,
-    k: Line,
-) -> Result<(), Blocked>
-    requires first { EndReady x.now.model.now t l.name1.0 }
-    requires second { EndReady y.now.model.now u k.name1.0 }
-    requires sends { SentReady y.now.model.now y.now.r.now u k.name2.0 }
-    ensures { blocked_in result ≡ channels_number (kinds_in y.now.model.now) x.now.r.now y.now.r.now (moves.value_in (kinds_in x.now.model.now) (words.thread x.now.r.now t) l.name1.0) (moves.value_in (kinds_in y.now.model.now) (words.thread y.now.r.now u) k.name1.0) (moves.value_in (kinds_in y.now.model.now) (words.thread y.now.r.now u) k.name2.0) }
-{
-    if private(y, u, k.name2) {
-        return Err(Blocked::Private);
-    }
-    sites(x, t, l.name1, y, u, k.name1)
-}
-
-// Inter between different boxes, both of whose threads are there: their lines, and then the channels.
-#[tactic(auto, using(crate::proofs::Rules::betweens))]
-fn between(x: &ReadyBox<'_>, t: usize, y: &ReadyBox<'_>, u: usize) -> Result<(), Blocked>
-    requires one_model { y.now.model.now.image.now ≡ x.now.model.now.image.now }
-    requires first { t < words.threads x.now.r.now }
-    requires second { u < words.threads y.now.r.now }
-    ensures { blocked_in result ≡ outcome_number (moves.inter_move (kinds_in x.now.model.now) (box_in x.now.model.now x.now.b) x.now.r.now (box_in x.now.model.now y.now.b) y.now.r.now t u) }
-{
-    let l = x.thread_line(t);
-    let k = y.thread_line(u);
-    input_to_output(l, k)?;
-    channels(x, t, l, y, u, k)
-}
-
-// Inter between two boxes.
+// Inter between two boxes. It begins as intra does, with 12, 13 and 14, and then asks other things: each is the equation of one definition.
 #[tactic(auto, using(crate::proofs::Rules::inters))]
 fn inter(x: &ReadyBox<'_>, t: usize, y: &ReadyBox<'_>, u: usize) -> Result<(), Blocked>
     requires one_model { y.now.model.now.image.now ≡ x.now.model.now.image.now }
     ensures { blocked_in result ≡ inter_number (kinds_in x.now.model.now) (box_in x.now.model.now x.now.b) x.now.r.now (box_in x.now.model.now y.now.b) y.now.r.now x.now.b t y.now.b u }
 {
-    if state::threads(x.r) <= t {
-        return Err(Blocked::Nobody);
-    }
-    if state::threads(y.r) <= u {
-        return Err(Blocked::Nobody);
-    }
-    if x.b == y.b {
-        return Err(Blocked::WithSelf);
-    }
-    between(x, t, y, u)
+    let v = x.thread(t).ok_or(Blocked::Nobody)?;
+    let w = y.thread(u).ok_or(Blocked::Nobody)?;
+    Blocked::WithSelf.unless(x.b != y.b)?;
+    input_to_output(&v, &w)?;
+    let c = Communication {
+        receiver: v,
+        sender: w,
+    };
+    c.channels()
 }
 
 // A move, in a state that obeys the state rules: its kind, where it is allowed. Moves write the state, so that it obeys them is a clause.
@@ -184,9 +170,7 @@ pub fn allowed(model: &ReadModel<'_>, state: &[u32], m: Turn) -> Result<Kind, Bl
     ensures kind { IfOk result (λ k. kind_number k ≡ m.kind) }
 {
     let n = model.layout.boxes;
-    if n <= m.b {
-        return Err(Blocked::Nobody);
-    }
+    Blocked::Nobody.unless(m.b < n)?;
     let x = ReadyBox {
         model,
         b: m.b,
@@ -195,9 +179,7 @@ pub fn allowed(model: &ReadModel<'_>, state: &[u32], m: Turn) -> Result<Kind, Bl
     if m.kind != Kind::Inter as u32 {
         return inside::allowed(&x, m.kind, m.t, m.u);
     }
-    if n <= m.c {
-        return Err(Blocked::Nobody);
-    }
+    Blocked::Nobody.unless(m.c < n)?;
     let y = ReadyBox {
         model,
         b: m.c,

@@ -1,23 +1,23 @@
 -- Ranges of a block's words: a union stands for its words, and three ranges are all of them. Assumes nothing.
-use mathlib.Core.Path.{◌≡◌, refl, sym, ap, ap₂, ◌∙◌}
+use mathlib.Core.Path.{◌≡◌, refl, sym, ap, ◌∙◌}
 use mathlib.Core.Bool.{Bool, true, false, ◌&&◌}
 use mathlib.Core.List.{List}
 use mathlib.Core.Logic.{◌↔◌, ◌⊎◌, inl, inr, ⊎_elim}
-use Prim.Native.Nat.{ℕ, ◌+◌, ◌/◌, ◌^◌, ◌≤◌, ◌<◌, min, zero-le}
-use native.Mathlib.Nat.{le_refl, div-one, div-eq_of_lt, lt_of_lt_of_le}
-use native.Mathlib.Numerals.{add-one}
+use Prim.Native.Nat.{ℕ, ◌/◌, ◌^◌, ◌≤◌, ◌<◌, min, zero-le}
+use native.Mathlib.Nat.{div-one, div-eq_of_lt, lt_of_lt_of_le}
 use native.Mathlib.Omega.{arith}
 use borrow.Author.Rules.{rules}
 use lib.Dec.{T, eqb}
 use lib.Pow.{pow_mono}
-use Rattle.definitions.specs.Bounded.{◌and◌, ◌or◌, ◌is◌, ◌below◌, ◌upto◌, any_below}
-use Rattle.definitions.specs.Sets.{has, no_bit_past}
+use Rattle.definitions.specs.Bounded.{◌and◌, ◌is◌, ◌below◌, ◌upto◌}
+use Rattle.definitions.specs.Sets.{no_bit_past}
 use Rattle.definitions.specs.Words.{data_word}
 use Rattle.definitions.specs.ReadEstimate.{sets_fit, is_set}
-use Rattle.definitions.proofs.Bounded.{tests, and_iff, or_iff, is_iff, below_iff, upto_iff, any_iff, true_of, of_true, false_of, same_test, decide}
+use Rattle.definitions.proofs.Bounded.{tests, and_iff, or_iff, is_iff, below_iff, true_of, of_true, false_of, same_test, decide}
 use Rattle.definitions.proofs.ReadEstimate.{sets_iff}
-use Rattle.definitions.proofs.Sets.{has-none, past_iff}
-use Rattle.estimate.specs.Blocks.{last_sets, words_fit, UnionOver}
+use Rattle.blocks.specs.Answers.{UnionOver}
+use Rattle.blocks.proofs.Unions.{union_past}
+use Rattle.estimate.specs.Blocks.{last_sets, words_fit}
 
 -- ---- the union of a range of words
 
@@ -25,77 +25,13 @@ range_iff : (n from to : ℕ) (f : ℕ → ℕ) → T (words_fit n from to f) �
 unfolding words_fit no_bit_past
 range_iff n from to f = (λ t. simp tests at t, λ g. simp tests g)
 
--- the words from `from` to i are gathered, and they are all before `to`
-pub record Gathered (f : ℕ → ℕ) (from to i w : ℕ) : Type 0 where
-  pub start : from ≤ i
-  pub inside : (j : ℕ) → from ≤ j → j < i → j < to
-  pub so_far : UnionOver f from i w
-
-module _ (f : ℕ → ℕ) (from to : ℕ) where
-  at : ℕ → ℕ → Bool
-  at m i = from upto i and has (f i) m
-
-  pub gathered_start : Gathered f from to from 0
-  unfolding at
-  gathered_start = record {
-    start = le_refl from;
-    inside = λ j a b. absurd (omega arith);
-    so_far = record { members = λ m. has-none m ∙ sym (false_of (any_below from (at m)) (λ t. none m ((any_iff from (at m)).0 t))) };
-  }
-    where
-      none : (m : ℕ) → (i : ℕ) × (i < from) × T (at m i) → ⊥
-      none m x =
-          let l = x.1 in
-          let h = (upto_iff from x.0).0 ((and_iff (from upto x.0) (has (f x.0) m)).0 x.2).0 in
-          omega arith
-
-  pub gathered_turn : (i w v u : ℕ) → Gathered f from to i w → i < to → u ≡ f i → ((m : ℕ) → has v m ≡ (has w m or has u m))
-      → Gathered f from to (i + 1) v
-  unfolding any_below ◌and◌ at
-  gathered_turn i w v u g l e h = record {
-    start = omega (arith, g.start);
-    inside = λ j a b. omega arith;
-    so_far = record {
-      members = λ m.
-          h m ∙ ap₂ ◌or◌ (g.so_far.members m) (ap (λ (x : ℕ). has x m) e
-          ∙ ap (λ (b : Bool). b and has (f i) m) (sym (true_of (from upto i) ((upto_iff from i).1 g.start))))
-          ∙ ap (λ (n : ℕ). any_below n (at m)) (sym (add-one i));
-    };
-  }
-
-  pub gathered_end : (i w : ℕ) → Gathered f from to i w → to ≤ i → UnionOver f from to w
-  unfolding at
-  gathered_end i w g l = record { members = λ m. g.so_far.members m ∙ same_test (any_below i (at m)) (any_below to (at m)) (cut m) (more m) }
-    where
-      cut : (m : ℕ) → T (any_below i (at m)) → T (any_below to (at m))
-      cut m t =
-          let x = (any_iff i (at m)).0 t in
-          let h = (upto_iff from x.0).0 ((and_iff (from upto x.0) (has (f x.0) m)).0 x.2).0 in
-          (any_iff to (at m)).1 (x.0, g.inside x.0 h x.1, x.2)
-
-      more : (m : ℕ) → T (any_below to (at m)) → T (any_below i (at m))
-      more m t = let x = (any_iff to (at m)).0 t in let h = x.1 in (any_iff i (at m)).1 (x.0, omega arith, x.2)
-
-  -- a union has no bit past n exactly when none of its words has
-  pub union_fits : (n w : ℕ) (r : Bool) → UnionOver f from to w → r ≡ no_bit_past n w → r ≡ words_fit n from to f
-  unfolding no_bit_past at
-  union_fits n w r u e =
-      e ∙ same_test (w / 2 ^ n is 0) (words_fit n from to f) (λ t. (range_iff n from to f).1 (each ((is_iff (w / 2 ^ n) 0).0 t)))
-      (λ t. (is_iff (w / 2 ^ n) 0).1 (all ((range_iff n from to f).0 t)))
-    where
-      each : w / 2 ^ n ≡ 0 → (i : ℕ) → i < to → from ≤ i → f i / 2 ^ n ≡ 0
-      each z i b a =
-          (past_iff (f i) n).1 (λ m t. (past_iff w n).0 z m (of_true (u.members m
-          ∙ true_of (any_below to (at m)) ((any_iff to (at m)).1 (i, b, (and_iff (from upto i) (has (f i) m)).1 ((upto_iff from i).1 a, t))))))
-
-      all : ((i : ℕ) → i < to → from ≤ i → f i / 2 ^ n ≡ 0) → w / 2 ^ n ≡ 0
-      all g =
-          (past_iff w n).1 (λ m t.
-          let x = (any_iff to (at m)).0 (of_true (sym (u.members m) ∙ true_of (has w m) t)) in
-          let y = (and_iff (from upto x.0) (has (f x.0) m)).0 x.2 in
-          (past_iff (f x.0) n).0 (g x.0 x.1 ((upto_iff from x.0).0 y.0)) m y.1)
-
-pub ruleset unions = (rules, gathered_start, gathered_turn, gathered_end, union_fits)
+-- a union has no bit past n exactly when none of its words has
+pub union_fits : (f : ℕ → ℕ) (from to n w : ℕ) (r : Bool) → UnionOver f from to w → r ≡ no_bit_past n w → r ≡ words_fit n from to f
+unfolding no_bit_past
+union_fits f from to n w r u e =
+    let past = union_past f from to n w u in
+    e ∙ same_test (w / 2 ^ n is 0) (words_fit n from to f) (λ t. (range_iff n from to f).1 (past.0 ((is_iff (w / 2 ^ n) 0).0 t)))
+    (λ t. (is_iff (w / 2 ^ n) 0).1 (past.1 ((range_iff n from to f).0 t)))
 
 -- ---- the words of a block
 

@@ -1,8 +1,8 @@
 -- The parts of an estimate's blocks: the last sets, words in a range, and a box's two blocks. Assumes nothing.
-use Rattle.std.specs.Prelude.{◌≡◌, Bool, true, false, List, ℕ}
+use Rattle.std.specs.Prelude.{Bool, true, false, List, ℕ}
 use Rattle.std.proofs.Math.Option.{Option}
-use Rattle.definitions.specs.Bounded.{◌and◌, ◌implies◌, ◌is◌, ◌upto◌, all_below, any_below, or_else}
-use Rattle.definitions.specs.Sets.{has, no_bit_past}
+use Rattle.definitions.specs.Bounded.{◌implies◌, ◌is◌, ◌upto◌, all_below, or_else}
+use Rattle.definitions.specs.Sets.{no_bit_past}
 use Rattle.definitions.specs.Answer as paper
 use Rattle.definitions.specs.Estimate.{eps_block, kap_block}
 use Rattle.definitions.specs.ReadEstimate.{table_fault}
@@ -14,10 +14,6 @@ last_sets asked = elim (asked is 5) [ true ↦ 60 | false ↦ 62 ]
 -- f i has no bit past n, for i from one number up to another
 unfoldable pub words_fit : ℕ → ℕ → ℕ → (ℕ → ℕ) → Bool
 words_fit n from to f = all_below to (λ i. from upto i implies no_bit_past n (f i))
-
--- w is the union of the sets f i for i from one number up to another
-pub record UnionOver (f : ℕ → ℕ) (from to w : ℕ) : Type 0 where
-  pub members : (m : ℕ) → has w m ≡ any_below to (λ i. from upto i and has (f i) m)
 
 -- the first fault of box b's two blocks
 unfoldable pub box_tables_fault : List ℕ → ℕ → ℕ → Option paper.Refusal

@@ -29,11 +29,13 @@ pub fn read(image: &[u8], names: usize, boxes: usize) -> Result<(), Refusal>
 {
     let fits = (image.len() % 1024 == 512) & (image.len() / 1024 == boxes);
     Rule::Length.fault_if(!fits, 0, 0)?;
-    tables::table(image, names, 0, BlockKind::Rho as usize, 0)?;
+    tables::table(image, names, 0, BlockKind::Rho, 0)?;
     tables::each_box(image, names, boxes)
 }
 
 // The sets over any image, each of which asks only for the block that it reads. An Estimate has them as methods.
+// eps and kap, and shown and hidden, are one call each: each contract is one set of the definitions.
+
 // rho(n).
 #[tactic(auto, unfolding(definitions::specs::Estimate::estimate_of))]
 pub fn rho(image: &[u8], n: NameNo) -> u64

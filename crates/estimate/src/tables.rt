@@ -1,4 +1,5 @@
 // The blocks of an estimate, each a table of sets: refusals 2 to 5, and their first over the boxes.
+// The image is still being read, so each function asks for the blocks that it reads: an Estimate is made where none is refused.
 // Bounds of indices and counts stand in the clauses: a type for each bound would be taken apart at every use.
 ghost use Rattle.std.specs.Prelude.{◌≡◌, ◌+◌, ◌*◌, ◌≤◌, min, length};
 ghost use Rattle.definitions.specs.Sets.{no_bit_past};
@@ -6,7 +7,8 @@ ghost use Rattle.definitions.specs.Bounded.{first_below};
 ghost use Rattle.definitions.specs.Words.{data_word};
 ghost use Rattle.definitions.specs.ReadEstimate.{sets_fit, is_set, table_fault};
 ghost use Rattle.refusals.specs.Answers.{answer_in};
-ghost use Rattle.estimate.specs.Blocks.{last_sets, words_fit, UnionOver, box_tables_fault};
+ghost use Rattle.blocks.specs.Answers.{kind_number};
+ghost use Rattle.estimate.specs.Blocks.{last_sets, words_fit, box_tables_fault};
 
 use blocks::inside::BlockKind;
 use refusals::{Refusal, Rule};
@@ -20,27 +22,10 @@ fn name_words(names: usize) -> usize
 
 // Where the last sets begin: kind 5 has two, and other kinds none.
 #[tactic(auto, using(crate::proofs::Ranges::words))]
-fn last_sets(asked: usize) -> usize
-    ensures { result ≡ last_sets asked }
+fn last_sets(asked: BlockKind) -> usize
+    ensures { result ≡ last_sets (kind_number asked) }
 {
-    if asked == BlockKind::Eps as usize {
-        60
-    } else {
-        62
-    }
-}
-
-// The union of a block's words from one number up to another.
-#[tactic(auto, using(crate::proofs::Ranges::unions))]
-fn words_union(block: &[u8; 512], from: usize, to: usize) -> u64
-    requires { to ≤ 62 }
-    ensures { UnionOver (data_word block.now) from to result }
-{
-    let mut w: u64 = 0;
-    for i in from..to {
-        w = sets::union(w, blocks::inside::data_word(block, i));
-    }
-    w
+    if asked == BlockKind::Eps { 60 } else { 62 }
 }
 
 #[tactic(auto, using(crate::proofs::Ranges::words))]
@@ -51,18 +36,18 @@ fn no_bit_past(names: usize, w: u64) -> bool
 }
 
 // The words of a block from one number up to another have no bit past n: tested once, on their union.
-#[tactic(auto, using(crate::proofs::Ranges::unions))]
+#[tactic(auto, using(crate::proofs::Ranges::union_fits))]
 fn words_fit(block: &[u8; 512], from: usize, to: usize, n: usize) -> bool
     requires { to ≤ 62 }
     ensures { result ≡ words_fit n from to (data_word block.now) }
 {
-    no_bit_past(n, words_union(block, from, to))
+    no_bit_past(n, blocks::inside::union_of_words(block, from, to))
 }
 
 // The names' sets, the words between, which are zero, and the last sets.
 #[tactic(auto, using(crate::proofs::Ranges::words))]
-fn sets_fit(block: &[u8; 512], names: usize, asked: usize) -> bool
-    ensures { result ≡ sets_fit names (is_set names asked) block.now }
+fn sets_fit(block: &[u8; 512], names: usize, asked: BlockKind) -> bool
+    ensures { result ≡ sets_fit names (is_set names (kind_number asked)) block.now }
 {
     let named = name_words(names);
     let last = last_sets(asked);
@@ -71,23 +56,21 @@ fn sets_fit(block: &[u8; 512], names: usize, asked: usize) -> bool
         & words_fit(block, last, 62, names)
 }
 
-// Block k, where the order asks for a kind and a box. asked is the kind's number, as in table_fault: a BlockKind would add its number to each contract.
+// Block k, where the order asks for a kind and a box.
 #[tactic(auto, using(crate::proofs::Laws::tables))]
 pub fn table(
     image: &[u8],
     names: usize,
     k: usize,
-    asked: usize,
+    asked: BlockKind,
     place: usize,
 ) -> Result<(), Refusal>
     requires { 512 * (k + 1) ≤ length image.now }
-    ensures { answer_in result ≡ table_fault image.now names k asked place }
+    ensures { answer_in result ≡ table_fault image.now names k (kind_number asked) place }
 {
     let block = blocks::inside::block(image, k);
-    Rule::Check.fault_if(!blocks::inside::check_matches(block), k, 0)?;
+    block_faults::headed(block, k, asked, place)?;
     let h = blocks::inside::heading_of(block);
-    let fits = blocks::inside::heading_matches(h, k, asked, place);
-    Rule::Heading.fault_if(!fits, k, 0)?;
     Rule::Count.fault_if(h.count != 0, k, 0)?;
     Rule::Stray.fault_if(!sets_fit(block, names, asked), k, 0)
 }
@@ -98,8 +81,8 @@ fn box_tables(image: &[u8], names: usize, b: usize) -> Result<(), Refusal>
     requires { 512 * (3 + 2 * b) ≤ length image.now }
     ensures { answer_in result ≡ box_tables_fault image.now names b }
 {
-    table(image, names, 1 + 2 * b, BlockKind::Eps as usize, b)?;
-    table(image, names, 2 + 2 * b, BlockKind::Kap as usize, b)
+    table(image, names, 1 + 2 * b, BlockKind::Eps, b)?;
+    table(image, names, 2 + 2 * b, BlockKind::Kap, b)
 }
 
 #[tactic(auto, using(refusals::proofs::Answers::answers))]

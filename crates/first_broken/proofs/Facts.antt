@@ -23,9 +23,9 @@ use Rattle.definitions.proofs.Valid.{Valid}
 use Rattle.definitions.proofs.ReadModel.{Blocks, read_iff, valid_image, lines_there, lines_most, sites-there}
 use Rattle.definitions.proofs.ReadEstimate.{EstimateFits, estimate_fits}
 use Rattle.records.specs.declared.Site.{Site}
-use Rattle.records.specs.declared.Line.{Line}
 use Rattle.layouts.specs.declared.Layout.{Layout}
-use Rattle.records.specs.Records.{site_in, line_in}
+use Rattle.records.specs.Records.{site_in}
+use Rattle.records.specs.Places.{LinesThere, LinesAt}
 use Rattle.layouts.specs.LayoutOf.{OfKind, LayoutOf}
 use Rattle.sets.specs.Names.{NamesOnly}
 use Rattle.estimate.specs.Known.{BoxOfNames, EstimateOfNames}
@@ -138,7 +138,7 @@ module _ (model estimate : List ℕ) (u : Unrefused model estimate) where
             subst (λ (x : paper.Site). x.subject < length (model_of model).kinds) (site-at h ∙ sym e) ((valid.box b in_model_lem).site i (site_in_lem h)).listed in
             omega (arith, kinds_60)
 
-        pub line-at : i < lines_of model b → paper.line_at (paper.box_at (model_of model) b) i ≡ line_record (block_of model (k + 1 + i / 31)) (i % 31)
+        line-at : i < lines_of model b → paper.line_at (paper.box_at (model_of model) b) i ≡ line_record (block_of model (k + 1 + i / 31)) (i % 31)
         line-at h =
             ap (λ (x : paper.Box). paper.line_at x i) same_box ∙ box_line model b i h
             ∙ ap (λ (j : ℕ). line_record (block_of model (j + 1 + i / 31)) (i % 31)) (sym at)
@@ -146,7 +146,7 @@ module _ (model estimate : List ℕ) (u : Unrefused model estimate) where
         line_in_lem : i < lines_of model b → i < paper.line_count (paper.box_at (model_of model) b)
         line_in_lem h = rw (same_box, box_lines model b) h
 
-        pub line-there : i < lines_of model b → 512 * (k + 1 + i / 31 + 1) ≤ length model
+        line-there : i < lines_of model b → 512 * (k + 1 + i / 31 + 1) ≤ length model
         line-there h = rw at (lines_there model blocks b inside i h)
 
         record_names : i < lines_of model b → LineOfNames (line_record (block_of model (k + 1 + i / 31)) (i % 31))
@@ -155,12 +155,13 @@ module _ (model estimate : List ℕ) (u : Unrefused model estimate) where
             (line_fits_lem (model_of model).kinds (paper.line_at (paper.box_at (model_of model) b) i) kinds_60
             (((read_iff model).0 u.model).model.lines b in_model_lem i (line_in_lem h)))
 
-        pub line_names : (l : Line) → i < lines_of model b → line_in l ≡ line_record (block_of model (k + 1 + i / 31)) (i % 31) → LineOfNames (line_in l)
-        line_names l h e = subst LineOfNames (sym e) (record_names h)
-
     -- the lines of the box
-    pub lines_named : (k n : ℕ) → k ≡ sites_block model b → n ≡ lines_of model b → LinesOfNames model k n
-    lines_named k n at en = record {
-      there = record { few = omega (arith, lines_most model blocks b inside, en); there = λ i h. line-there k at i (rw en at h) };
-      each = λ i h. record_names k at i (rw en at h);
-    }
+    module _ (k n : ℕ) (at : k ≡ sites_block model b) (en : n ≡ lines_of model b) where
+      pub lines_whole : LinesThere model k n
+      lines_whole = record { few = omega (arith, lines_most model blocks b inside, en); there = λ i h. line-there k at i (rw en at h) }
+
+      pub lines_named : LinesOfNames model k n
+      lines_named = record { there = lines_whole; each = λ i h. record_names k at i (rw en at h) }
+
+      pub lines_at : LinesAt model b k n
+      lines_at = record { inside = inside; at = at; lines = en; there = lines_whole }

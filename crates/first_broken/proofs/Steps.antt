@@ -3,7 +3,7 @@ use mathlib.Core.Path.{◌≡◌, sym, ap, ap₂, subst, ◌∙◌}
 use mathlib.Core.Bool.{Bool, true}
 use mathlib.Core.List.{List}
 use mathlib.Core.Option.{Option, none, some}
-use Prim.Native.Nat.{ℕ, ◌+◌, ◌/◌, ◌%◌, ◌≤◌, ◌<◌}
+use Prim.Native.Nat.{ℕ, ◌≤◌, ◌<◌}
 use native.Mathlib.Omega.{arith}
 use borrow.Author.Rules.{rules}
 use lib.ListN.{length, get_or}
@@ -11,7 +11,7 @@ use Rattle.definitions.specs.Bounded.{◌and◌, ◌is◌, ◌below◌, when, or
 use Rattle.definitions.specs.Sets.{has}
 use Rattle.definitions.specs.Words.{block_of, count_of}
 use Rattle.definitions.specs.Model as paper
-use Rattle.definitions.specs.Image.{site_record, line_record, boxes_of, kinds_of, sites_block, lines_of, model_of}
+use Rattle.definitions.specs.Image.{site_record, boxes_of, kinds_of, sites_block, lines_of, model_of}
 use Rattle.definitions.specs.Estimate.{Estimate, estimate_of}
 use Rattle.definitions.specs.Clauses as cl
 use Rattle.definitions.proofs.Bounded.{is_iff, of_true, each_none}
@@ -24,12 +24,13 @@ use Rattle.records.specs.declared.Line.{Line}
 use Rattle.layouts.specs.declared.Layout.{Layout}
 use Rattle.records.specs.Records.{site_in, line_in}
 use Rattle.layouts.specs.LayoutOf.{LayoutOf, nowhere}
-use Rattle.records.specs.Places.{line_record_at}
+use Rattle.records.specs.Places.{LinesAt, line_record_at}
+use Rattle.records.proofs.PlaceLaws.{line-at}
 use Rattle.sharing.proofs.Gather.{nothing_of}
 use Rattle.clause_walk.specs.Lines.{LinePasses, ShowsLines}
 use Rattle.record_clauses.specs.Known.{NamesFound, LineFound}
 use Rattle.first_broken.specs.Known.{Unrefused}
-use Rattle.first_broken.proofs.Facts.{box_8, count_60, kind_names, estimate_512, names_boxes, box_names, eps_there, site-there, site-at, site_31, site_62, line-at, line-there, line_names, lines_named}
+use Rattle.first_broken.proofs.Facts.{box_8, count_60, kind_names, estimate_512, names_boxes, box_names, eps_there, site-there, site-at, site_31, site_62, lines_whole, lines_named, lines_at}
 
 -- ---- clause 2
 
@@ -41,11 +42,11 @@ site-is model estimate k b i s o r u inside at h es q f =
     q ∙ ap (cl.broken_at 2 b i) (f ∙ ap (cl.clause2 (estimate_of estimate) b) (es ∙ sym (site-at model estimate u b inside k at i h)))
 
 -- a line of the model
-pub line-is : (model estimate : List ℕ) (boxes k b i : ℕ) (l : Line) (r : Option cl.Broken) → Unrefused model estimate → boxes ≡ boxes_of model
-    → b < boxes_of model → k ≡ sites_block model b → i < lines_of model b → line_in l ≡ line_record (block_of model (k + 1 + i / 31)) (i % 31)
-    → LineFound (estimate_of estimate) boxes b i (line_in l) r → r ≡ cl.line_broken (model_of model) (estimate_of estimate) b i
-line-is model estimate boxes k b i l r u eb inside at h el q =
-    q.same (model_of model) (line-at model estimate u b inside k at i h ∙ sym el) (model_count model ∙ sym eb)
+pub line-is : (model estimate image : List ℕ) (boxes k b n i : ℕ) (l : Line) (r : Option cl.Broken) → boxes ≡ boxes_of model → image ≡ model
+    → LinesAt model b k n → i < n → line_in l ≡ line_record_at image k i → LineFound (estimate_of estimate) boxes b i (line_in l) r
+    → r ≡ cl.line_broken (model_of model) (estimate_of estimate) b i
+line-is model estimate image boxes k b n i l r eb em at h el q =
+    q.same (model_of model) (sym (line-at model b k n at i h) ∙ ap (λ (x : List ℕ). line_record_at x k i) (sym em) ∙ sym el) (model_count model ∙ sym eb)
 
 -- ---- no line of a box breaks a clause
 
@@ -67,13 +68,14 @@ passes_none m e b i l at p =
     let a9 = asks_none x.op paper.unhide 9 b i (cl.clause9 e b x) q.nine in
     (λ j. or_else (a3 j) (or_else (a4 j) (or_else (a5 j) (or_else (a6 j) (or_else (a7 j) (or_else (a8 j) (a9 j)))))))
 
-pub shown_none : (model estimate : List ℕ) (boxes k b n : ℕ) (r : Bool) → Unrefused model estimate → boxes ≡ boxes_of model → b < boxes → k ≡ sites_block model b
-    → n ≡ lines_of model b → ShowsLines model (estimate_of estimate) boxes b k n r → r ≡ true
-    → none ≡ first_below n (cl.line_broken (model_of model) (estimate_of estimate) b)
-shown_none model estimate boxes k b n r u eb inside at en s t =
-    sym (each_none (cl.line_broken (model_of model) (estimate_of estimate) b) n (λ i h.
-    passes_none (model_of model) (estimate_of estimate) b i (line_record_at model k i) (line-at model estimate u b (rw eb at inside) k at i (rw en at h))
-    (subst (λ (x : ℕ). LinePasses (estimate_of estimate) x b (line_record_at model k i)) (eb ∙ sym (model_count model)) (s.shows (of_true t) i h))))
+pub shown_none : (model estimate image : List ℕ) (boxes k b n : ℕ) (r : Bool) → boxes ≡ boxes_of model → image ≡ model → LinesAt model b k n
+    → ShowsLines image (estimate_of estimate) boxes b k n r → r ≡ true
+    → none ≡ first_below (lines_of model b) (cl.line_broken (model_of model) (estimate_of estimate) b)
+shown_none model estimate image boxes k b n r eb em at s t =
+    rw (sym at.lines) (sym (each_none (cl.line_broken (model_of model) (estimate_of estimate) b) n (λ i h.
+    passes_none (model_of model) (estimate_of estimate) b i (line_record_at model k i) (sym (line-at model b k n at i h))
+    (subst (λ (x : ℕ). LinePasses (estimate_of estimate) x b (line_record_at model k i)) (eb ∙ sym (model_count model))
+    (subst (λ (x : List ℕ). LinePasses (estimate_of estimate) boxes b (line_record_at x k i)) em (s.shows (of_true t) i h))))))
 
 -- below a count, or not, by one that is the same
 pub inside_of : (n b count : ℕ) → count ≡ n → b < count → b < n
@@ -149,7 +151,9 @@ pub ruleset sites = (rules, eps_there, site-there, site_31, site_62, site-is)
 
 pub ruleset firsts = (answers, box_8, layout_boxes, layout_sites, inside_of, most_of)
 
-pub ruleset walks = (answers, box_8, layout_boxes, layout_at, layout_lines, inside_of, most_of, line-there, line_names, lines_named, nothing_of, shown_none)
+pub ruleset named = (rules, box_8, layout_boxes, layout_at, layout_lines, inside_of, lines_whole, lines_named, lines_at)
+
+pub ruleset walks = (answers, layout_boxes, inside_of, nothing_of, shown_none)
 
 pub ruleset boxes = (rules, box_stop, box_go)
 

@@ -6,12 +6,14 @@ ghost use Rattle.definitions.specs.Words.{block_of, count_of};
 ghost use Rattle.definitions.specs.Image.{boxes_of, sites_block, lines_of, model_of};
 ghost use Rattle.definitions.specs.Estimate.{estimate_of};
 ghost use Rattle.definitions.specs.Clauses.{site_broken, line_broken, box_broken};
+ghost use Rattle.records.specs.Places.{LinesAt};
 ghost use Rattle.record_clauses.specs.Found.{found_in};
 ghost use Rattle.first_broken.specs.Known.{Unrefused};
 
-use clauses::NamedLine;
+use line_gather::NamedLines;
 use model::ReadModel;
 use record_clauses::{Broken, lines};
+use records::Lines;
 use sharing::Tables;
 
 // A model, and the tables of an estimate for its boxes, neither of them refused. `Both`, with the tables in the
@@ -49,18 +51,33 @@ impl<'m, 'e> Checking<'m, 'e> {
         Ok(())
     }
 
+    // The lines of box b, as they stand in the model.
+    #[tactic(auto, using(crate::proofs::Steps::named))]
+    fn named_lines(&self, b: usize) -> NamedLines<'m>
+        requires { b < boxes_of self.now.model.image.now }
+        ensures image { result.lines.image.now ≡ self.now.model.image.now }
+        ensures lines { LinesAt self.now.model.image.now b result.lines.k result.lines.n }
+    {
+        let place = self.model.layout.each[b];
+        NamedLines {
+            lines: Lines {
+                image: self.model.image,
+                k: place.at,
+                n: place.lines,
+            },
+        }
+    }
+
     // The lines of box b, one by one: the first that breaks a clause.
     #[tactic(auto, using(crate::proofs::Steps::walks))]
     fn each_line(&self, b: usize) -> Result<(), Broken>
         requires { b < boxes_of self.now.model.image.now }
         ensures { found_in result ≡ first_below (lines_of self.now.model.image.now b) (line_broken (model_of self.now.model.image.now) (estimate_of self.now.tables.estimate.image.now) b) }
     {
-        let place = self.model.layout.each[b];
+        let named = self.named_lines(b);
         let mut g = sharing::nothing();
-        for j in 0..place.lines {
-            let l = NamedLine {
-                line: records::inside::line(self.model.image, place.at, j),
-            };
+        for j in 0..named.lines.n {
+            let l = named.line(j);
             g = lines::gather(&self.tables, b, l, g);
             lines::by_operation(self.tables.estimate, g, b, j, l)?;
         }
@@ -73,8 +90,7 @@ impl<'m, 'e> Checking<'m, 'e> {
         requires { b < boxes_of self.now.model.image.now }
         ensures { found_in result ≡ first_below (lines_of self.now.model.image.now b) (line_broken (model_of self.now.model.image.now) (estimate_of self.now.tables.estimate.image.now) b) }
     {
-        let place = self.model.layout.each[b];
-        if clause_walk::lines_pass(self.model.image, &self.tables, place.at, b, place.lines) {
+        if clause_walk::lines_pass(self.named_lines(b), &self.tables, b) {
             return Ok(());
         }
         self.each_line(b)
@@ -90,7 +106,7 @@ impl<'m, 'e> Checking<'m, 'e> {
         self.lines(b)
     }
 
-    // The boxes, ascending.
+    // The boxes, ascending. A range, and no walk over the layout's places: what is asked of a box goes by its number.
     #[tactic(auto, using(crate::proofs::Steps::firsts))]
     pub fn boxes(&self) -> Result<(), Broken>
         ensures { found_in result ≡ first_below (boxes_of self.now.model.image.now) (box_broken (model_of self.now.model.image.now) (estimate_of self.now.tables.estimate.image.now)) }

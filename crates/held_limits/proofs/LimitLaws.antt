@@ -1,8 +1,9 @@
 -- Laws of the limits of held names: a held name lies within the limits of its number exactly when it is in order. Assumes nothing.
-use Rattle.std.proofs.Common.{◌≡◌, ℕ, ◌+◌, ◌-◌, ◌%◌, ◌^◌, ◌<◌, ◌≤◌, Bool, true, false, ◌&&◌, T, leb, ◌≢◌, ◌↔◌, List, length, get_or, set, replicate, sym, refl, ap, ◌∙◌, subst, ap₂, arith, length-set, get_or-set_other}
+use Rattle.std.proofs.Common.{◌≡◌, ℕ, ◌+◌, ◌++◌, take, drop, length-take, ◌-◌, ◌%◌, ◌^◌, ◌<◌, ◌≤◌, Bool, true, false, ◌&&◌, T, leb, ◌≢◌, ◌↔◌, List, length, get_or, set, replicate, sym, refl, ap, ◌∙◌, subst, ap₂, arith}
 use mathlib.Core.Option.{Option, none, some}
 use native.Mathlib.Decide.{ℕ_discrete, dec_lt}
-use lib.ListN.{length-replicate, get_or-replicate}
+use lib.ListN.{length-replicate, get_or-replicate, get_or-append}
+use Rattle.std.proofs.lemmas.List.{get_or-append_right, get_or-drop}
 use Rattle.definitions.specs.Bounded.{◌and◌, ◌is◌, ◌below◌, ◌upto◌, some_if}
 use Rattle.definitions.specs.Sets.{has}
 use Rattle.definitions.specs.Model.{kind_of_name, owner}
@@ -121,29 +122,34 @@ limit_of l last n = record { low = least_held l.kinds.free n; high = largest_hel
 abbrev pub shut : Limit
 shut = record { low = 1; high = 0 }
 
--- the entries of the numbers below n are given, and each other admits nothing
+-- of the entries of a layout's names, those of the numbers below n are given
 pub record LimitsRun (l : Layout) (st : List ℕ) (n : ℕ) (limits : List Limit) : Type 0 where
-  pub few : l.names ≤ 60
-  pub long : length limits ≡ 64
   pub given : (i : ℕ) → i < n → get_or limits i past ≡ limit_of l (last_stamps st) i
-  pub rest : (i : ℕ) → n ≤ i → i < 64 → get_or limits i past ≡ shut
+
+-- the entries of a layout's names are given, and each other admits nothing
+record LimitsWhole (l : Layout) (st : List ℕ) (limits : List Limit) : Type 0 where
+  few : l.names ≤ 60
+  given : (i : ℕ) → i < l.names → get_or limits i past ≡ limit_of l (last_stamps st) i
+  rest : (i : ℕ) → l.names ≤ i → i < 64 → get_or limits i past ≡ shut
 
 module _ (l : Layout) (st : List ℕ) where
-  pub limits_start : (limits : List Limit) → l.names ≤ 60 → limits ≡ replicate 64 shut → LimitsRun l st 0 limits
-  limits_start limits h e = record {
-    few = h;
-    long = ap length e ∙ length-replicate {A = Limit} 64 shut;
-    given = λ i l. absurd (omega arith);
-    rest = λ i _ q. ap (λ (x : List Limit). get_or x i past) e ∙ get_or-replicate 64 i shut past q;
+  pub limits_start : (limits : List Limit) → LimitsRun l st 0 limits
+  limits_start limits = record { given = λ i l. absurd (omega arith) }
+
+  pub limits_turn : (n m : ℕ) (limits : List Limit) → LimitsRun l st n limits → length limits ≡ m → n < m → (r : Limit) → r.low ≡ least_held l.kinds.free n → r.high ≡ largest_held l (last_stamps st) n
+      → LimitsRun l st (n + 1) (set limits n r)
+  limits_turn n m limits p long h r e q = record {
+    given = set_entry past (λ i x. x ≡ limit_of l (last_stamps st) i) limits n r (omega (arith, long)) p.given (λ i. record { low = e i; high = q i });
   }
 
-  pub limits_turn : (n : ℕ) (limits : List Limit) → LimitsRun l st n limits → (r : Limit) → n < l.names → r.low ≡ least_held l.kinds.free n → r.high ≡ largest_held l (last_stamps st) n
-      → LimitsRun l st (n + 1) (set limits n r)
-  limits_turn n limits p r h e q = record {
-    few = p.few;
-    long = length-set limits n r ∙ p.long;
-    given = set_entry past (λ i x. x ≡ limit_of l (last_stamps st) i) limits n r (omega (arith, p.few, p.long)) p.given (λ i. record { low = e i; high = q i });
-    rest = λ i a b. get_or-set_other limits n i r past (omega arith) ∙ p.rest i (omega arith) b;
+  limits_whole : (n : ℕ) (given limits : List Limit) → l.names ≤ 60 → limits ≡ replicate 64 shut → length given ≡ l.names → LimitsRun l st n given → l.names ≤ n
+      → LimitsWhole l st (given ++ drop l.names limits)
+  limits_whole n given limits few e long p done = record {
+    few = few;
+    given = λ i h. get_or-append given (drop l.names limits) past i (omega (arith, long)) ∙ p.given i (omega arith);
+    rest = λ i h q.
+        get_or-append_right given (drop l.names limits) l.names i past long h ∙ get_or-drop l.names limits (i - l.names) past
+        ∙ ap (λ (x : List Limit). get_or x (l.names + (i - l.names)) past) e ∙ get_or-replicate 64 (l.names + (i - l.names)) shut past (omega arith);
   }
 
 -- ---- the limits are those of the held names in order
@@ -224,7 +230,7 @@ module _ (image : List ℕ) (l : Layout) (last : ℕ → ℕ) (lay : LayoutOf im
           let high = high_made image l last lay few name inside (some x.0) x.1 f h.not_received in
           (omega (arith, low_made image l last lay few name inside f, x.2), omega (arith, x.3))
 
-module _ (l : Layout) (st : List ℕ) (n : ℕ) (limits : List Limit) (p : LimitsRun l st n limits) (so_far : n ≤ l.names) (done : l.names ≤ n) where
+module _ (l : Layout) (st : List ℕ) (limits : List Limit) (p : LimitsWhole l st limits) where
   module _ (image : List ℕ) (lay : LayoutOf image l) where
     last : ℕ → ℕ
     last = last_stamps st
@@ -246,9 +252,8 @@ module _ (l : Layout) (st : List ℕ) (n : ℕ) (limits : List Limit) (p : Limit
     inside_limits : (v : ℕ) → v ≢ 0 → Dec (held_number v < l.names) → T (in_limits limits v) ↔ HeldFits (model_of image) last v
     unfolding last
     inside_limits v f (yes h) =
-        let q : held_number v < n = omega arith in
-        let a = ap (λ (y : Limit). y.low) (p.given (held_number v) q) in
-        let b = ap (λ (y : Limit). y.high) (p.given (held_number v) q) in (
+        let a = ap (λ (y : Limit). y.low) (p.given (held_number v) h) in
+        let b = ap (λ (y : Limit). y.high) (p.given (held_number v) h) in (
           λ t. let x = (limit_at v f).0 t in between_fits image l last lay p.few v f h (omega arith) (omega arith),
           λ k. let x = fits_between image l last lay p.few v f h k in (limit_at v f).1 (omega arith, omega arith),
         )
@@ -266,8 +271,15 @@ module _ (l : Layout) (st : List ℕ) (n : ℕ) (limits : List Limit) (p : Limit
         let x = inside_limits v f (dec_lt (held_number v) l.names) in
         same_test (in_limits limits v) (held_fits (model_of image) last v) (λ t. (held_iff (model_of image) last v).1 (x.0 t)) (λ t. x.1 ((held_iff (model_of image) last v).0 t))
 
-  pub limits_end : LimitsFor l st limits
+  limits_for : LimitsFor l st limits
   unfolding last
-  limits_end = record { are = λ image lay. record { same = λ v. same_limits image lay v (ℕ_discrete v 0) } }
+  limits_for = record { are = λ image lay. record { same = λ v. same_limits image lay v (ℕ_discrete v 0) } }
+
+-- the entries of the first names are lent, given one after another, and are back
+pub limits_end : (l : Layout) (st : List ℕ) (n : ℕ) (given limits : List Limit) → LimitsRun l st n given → l.names ≤ 60 → limits ≡ replicate 64 shut
+    → length given ≡ length (take l.names limits) → length (take l.names limits) ≤ n → LimitsFor l st (given ++ drop l.names limits)
+limits_end l st n given limits p few e long done =
+    let all : length (take l.names limits) ≡ l.names = simp length-take (omega (arith, ap length e ∙ length-replicate {A = Limit} 64 shut)) in
+    limits_for l st (given ++ drop l.names limits) (limits_whole l st n given limits few e (long ∙ all) p (omega (arith, all)))
 
 pub ruleset limits = (entry_is, entry_below, in_limits_lem, last-is, last_test, joining_start, joining_turn, joining_end, least_free, least_made, binder_below, binder_stamp, largest_some, largest_none, largest_free, largest_received, largest_made_lem, limits_start, limits_turn, limits_end)

@@ -1,5 +1,6 @@
 #![tactic(auto, using(crate::proofs::LimitLaws::limits))]
 // The held names that are in order, by a table made once for a state: for each name's number the least and the largest.
+// A word becomes an entry, and an entry a name's number, by `as`: usize has no From<u32>, u8 none of usize.
 // Bounds of indices and counts stand in the clauses: a type for each bound would be taken apart at every use.
 ghost use Rattle.std.specs.Prelude.{◌≡◌, ◌*◌, ◌<◌, ◌≤◌, length};
 ghost use Rattle.definitions.specs.Bounded.{all_below};
@@ -45,7 +46,7 @@ fn last_stamp(state: &[u32], b: usize) -> u32
     state::stamp(state::record(state, b))
 }
 
-// The last stamps of so many boxes are at most the limit: joined with no branch.
+// The last stamps of so many boxes are at most the limit: joined with no branch. By a box's number, at which its stamp is read.
 pub fn stamps_fit(state: &[u32], boxes: usize) -> bool
     requires long { length state.now ≡ records.state_length }
     requires few { boxes ≤ box_limit }
@@ -91,7 +92,7 @@ pub fn set_limits(limits: &mut [Limit; 64], layout: &Layout, state: &[u32])
     ensures { LimitsFor layout.now state.now limits.new }
 {
     limits.fill(NO_LIMIT);
-    for n in 0..layout.names {
-        limits[n] = limit_of(layout, state, NameNo(n as u8));
+    for (n, limit) in limits[..layout.names].iter_mut().enumerate() {
+        *limit = limit_of(layout, state, NameNo(n as u8));
     }
 }

@@ -1,5 +1,5 @@
 -- What is used and bound before a record, from box to box. Assumes nothing.
-use mathlib.Core.Path.{◌≡◌, refl, sym, ap, ap₂, ◌∙◌}
+use mathlib.Core.Path.{◌≡◌, sym, ap, ap₂, ◌∙◌}
 use mathlib.Core.Bool.{Bool, false}
 use Prim.Native.Nat.{ℕ, ◌+◌}
 use Rattle.definitions.specs.Bounded.{◌or◌, ◌is◌, any_below}

@@ -6,14 +6,13 @@ use mathlib.Core.Option.{none}
 use Prim.Native.Nat.{ℕ, ◌+◌, ◌*◌, ◌≤◌, ◌<◌}
 use native.Mathlib.Omega.{arith}
 use native.Mathlib.Decide.{dec_lt}
-use lib.ListN.{length, get_or}
-use mir.Syntax.{w64}
-use mir.Val.{Fits}
+use lib.ListN.{length, get_or, take}
+use Rattle.std.proofs.lemmas.List.{length-take, length-take-le}
 use Rattle.definitions.specs.Bounded.{◌and◌, ◌or◌, ◌is◌, ◌below◌}
 use Rattle.definitions.specs.Sets.{has}
 use Rattle.definitions.specs.Words.{block_of, count_of}
 use Rattle.definitions.specs.Model.{box_count, listed, is_free, kind_of_name}
-use Rattle.definitions.specs.Image.{name_count, boxes_of, kinds_of, model_of}
+use Rattle.definitions.specs.Image.{name_count, boxes_of, kinds_of, sites_block, lines_of, model_of}
 use Rattle.definitions.specs.ReadModel.{blocks_fault}
 use Rattle.definitions.proofs.Bounded.{is_iff, below_iff, true_of, false_of}
 use Rattle.definitions.proofs.Image.{model_count, model_names, kind_past}
@@ -21,6 +20,7 @@ use Rattle.definitions.proofs.ReadModel.{lines_most, lines_there, sites-there}
 use Rattle.records.specs.NameSets.{SetOf, lacks}
 use Rattle.records.specs.Places.{LinesAt, SitesAt}
 use Rattle.record_rules.specs.Rules.{KindsIn, is_free_or_unlisted}
+use Rattle.layouts.specs.declared.BoxPlace.{BoxPlace}
 use Rattle.layouts.specs.declared.Layout.{Layout}
 use Rattle.layouts.specs.LayoutOf.{nowhere, FrameOf, LayoutOf}
 use Rattle.layouts.proofs.LayoutLaws.{right}
@@ -38,6 +38,33 @@ second : (b : Bool) → ((false and b) or not false) ≡ true
 unfolding ◌and◌ ◌or◌
 second b = refl
 
+-- a place is that of box b, whatever names are bound in it
+pub record PlaceOf (image : List ℕ) (b : ℕ) (p : BoxPlace) : Type 0 where
+  pub at : p.at ≡ sites_block image b
+  pub sites : p.sites ≡ count_of (block_of image (sites_block image b))
+  pub lines : p.lines ≡ lines_of image b
+
+module _ (image : List ℕ) (f : blocks_fault image ≡ none) (b : ℕ) (k : b < boxes_of image) (p : BoxPlace) (e : PlaceOf image b p) where
+  pub place_lines : LinesAt image b p.at p.lines
+  place_lines = record {
+    inside = k;
+    at = e.at;
+    lines = e.lines;
+    there = record {
+      few = (let z = lines_most image (right image f) b k in omega (arith, e.lines));
+      there = λ i z. rw e.at (lines_there image (right image f) b k i (omega (arith, e.lines)));
+    };
+  }
+
+  pub place_sites : SitesAt image b p.at p.sites
+  place_sites = record {
+    inside = k;
+    at = e.at;
+    sites = e.sites ∙ ap (λ (i : ℕ). count_of (block_of image i)) (sym e.at);
+    few = (let z = ((right image f).box b k).sites.most in omega (arith, e.sites));
+    there = rw e.at (sites-there image (right image f) b k);
+  }
+
 module _ (image : List ℕ) (l : Layout) (f : blocks_fault image ≡ none) (h : FrameOf image l) where
   pub inside : (b : ℕ) → b < l.boxes → b < boxes_of image
   inside b q = let z = h.boxes in omega arith
@@ -45,8 +72,18 @@ module _ (image : List ℕ) (l : Layout) (f : blocks_fault image ≡ none) (h : 
   pub in_room : (b : ℕ) → b < l.boxes → b < 8
   in_room b q = let z = h.boxes in let k = (right image f).head.boxes in omega arith
 
-  pub in_scale : (b : ℕ) → b < l.boxes → Fits w64 (b * 8)
-  in_scale b q = let z = in_room b q in omega arith
+  pub boxes_most : l.boxes ≤ 8
+  boxes_most = let z = h.boxes in let k = (right image f).head.boxes in omega arith
+
+  -- the places of the boxes are the first of all places
+  pub boxes_there : length l.each ≡ 8 → l.boxes ≤ length l.each
+  boxes_there e = omega (arith, boxes_most)
+
+  pub in_boxes : (b : ℕ) → b < length (take l.boxes l.each) → b < l.boxes
+  in_boxes b q = let z = length-take l.boxes l.each in omega arith
+
+  pub past_boxes : (b : ℕ) → length l.each ≡ 8 → length (take l.boxes l.each) ≤ b → l.boxes ≤ b
+  past_boxes b e q = let z = length-take-le l.boxes l.each (boxes_there e) in omega arith
 
   pub in_model_lem : (b : ℕ) → b < l.boxes → b < box_count (model_of image)
   in_model_lem b q = let z = model_count image in let k = inside b q in omega arith
@@ -54,33 +91,14 @@ module _ (image : List ℕ) (l : Layout) (f : blocks_fault image ≡ none) (h : 
   pub past_model : (b : ℕ) → l.boxes ≤ b → box_count (model_of image) ≤ b
   past_model b q = let z = model_count image in let k = h.boxes in omega arith
 
+  pub place_in : (b : ℕ) → b < boxes_of image → PlaceOf image b (get_or l.each b nowhere)
+  place_in b k = record { at = h.at b k; sites = h.sites b k; lines = h.lines b k }
+
   pub lines_at : (b : ℕ) → b < l.boxes → LinesAt image b (get_or l.each b nowhere).at (get_or l.each b nowhere).lines
-  lines_at b q =
-      let k = inside b q in
-      let e = h.at b k in
-      let n = h.lines b k in
-      record {
-        inside = k;
-        at = e;
-        lines = n;
-        there = record {
-          few = (let z = lines_most image (right image f) b k in omega arith);
-          there = λ i z. rw e (lines_there image (right image f) b k i (omega arith));
-        };
-      }
+  lines_at b q = place_lines image f b (inside b q) (get_or l.each b nowhere) (place_in b (inside b q))
 
   pub sites-at : (b : ℕ) → b < l.boxes → SitesAt image b (get_or l.each b nowhere).at (get_or l.each b nowhere).sites
-  sites-at b q =
-      let k = inside b q in
-      let e = h.at b k in
-      let n = h.sites b k in
-      record {
-        inside = k;
-        at = e;
-        sites = n ∙ ap (λ (i : ℕ). count_of (block_of image i)) (sym e);
-        few = (let z = ((right image f).box b k).sites.most in omega arith);
-        there = rw e (sites-there image (right image f) b k);
-      }
+  sites-at b q = place_sites image f b (inside b q) (get_or l.each b nowhere) (place_in b (inside b q))
 
   pub site-there : (b : ℕ) → b < l.boxes → 512 * ((get_or l.each b nowhere).at + 1) ≤ length image
   site-there b q = (sites-at b q).there

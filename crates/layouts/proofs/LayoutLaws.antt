@@ -1,7 +1,7 @@
 -- Laws of a layout's frame: the names by kind, a box's row, and the rows of all boxes. Assumes nothing.
 use mathlib.Core.Path.{◌≡◌, refl, sym, ap, ◌∙◌, subst}
 use mathlib.Core.Bool.{Bool}
-use mathlib.Core.List.{List}
+use mathlib.Core.List.{List, ◌++◌}
 use mathlib.Core.Logic.{◌⊎◌, inl, inr, ⊎_elim, ◌≢◌}
 use mathlib.Core.Option.{none}
 use Prim.Native.Nat.{ℕ, ◌+◌, ◌-◌, ◌*◌, ◌≤◌, ◌<◌, zero-le}
@@ -10,7 +10,7 @@ use native.Mathlib.Omega.{arith}
 use native.Mathlib.Decide.{ℕ_discrete}
 use borrow.Author.Rules.{rules}
 use lib.Dec.{T, eqb}
-use lib.ListN.{length, get_or, set, length-set}
+use lib.ListN.{length, get_or, get_or-append, set, length-set}
 use lib.Seq.{get_or-set_same, get_or-set_other}
 use Rattle.definitions.specs.Bounded.{◌and◌, ◌or◌, ◌is◌, ◌below◌}
 use Rattle.definitions.specs.Sets.{has}
@@ -138,6 +138,10 @@ module _ (image : List ℕ) (f : blocks_fault image ≡ none) where
   unfolding name_count
   names_few w e = let h = right.head.names in omega arith
 
+  pub boxes_few : (w : ℕ) → w ≡ data_word (block_of image 0) 1 → w ≤ 8
+  unfolding boxes_of
+  boxes_few w e = let h = right.head.boxes in omega arith
+
 -- ---- the boxes
 
 -- an entry written: what holds of its value, and of each other entry, holds of each
@@ -160,11 +164,11 @@ pub record FrameSoFar (image : List ℕ) (boxes b k : ℕ) (each : List BoxPlace
   pub upto : b ≤ boxes
   pub here : k ≡ sites_block image b
   pub small : k ≤ 1 + 5 * b
-  pub long : length each ≡ 8
+  pub long : length each ≡ boxes
   pub placed : (c : ℕ) → c < b → BoxPlaceOf image (sites_block image c) (get_or each c nowhere)
 
 pub frame_start : (image : List ℕ) (w : ℕ) (each : List BoxPlace) → blocks_fault image ≡ none → w ≡ data_word (block_of image 0) 1
-    → length each ≡ 8 → FrameSoFar image w 0 1 each
+    → length each ≡ w → FrameSoFar image w 0 1 each
 unfolding boxes_of
 frame_start image w each f e h = record {
   all = e;
@@ -223,22 +227,25 @@ word_of_head image head i w e h = h ∙ ap (λ (x : List ℕ). data_word x i) e
 pub kinds_of_head : (image head : List ℕ) (n : ℕ) (s : Kinds) → head ≡ block_of image 0 → KindSetsOf head n s → KindSetsOf (block_of image 0) n s
 kinds_of_head image head n s e h = subst (λ (x : List ℕ). KindSetsOf x n s) e h
 
-pub frame_end : (image : List ℕ) (names boxes b k : ℕ) (each : List BoxPlace) (s : Kinds) → FrameSoFar image boxes b k each → boxes ≤ b
+pub frame_end : (image : List ℕ) (names boxes b k : ℕ) (each rest : List BoxPlace) (s : Kinds) → FrameSoFar image boxes b k each → boxes ≤ b
     → names ≡ data_word (block_of image 0) 0 → KindSetsOf (block_of image 0) names s
-    → FrameOf image (record { names = names; boxes = boxes; each = each; kinds = s })
+    → FrameOf image (record { names = names; boxes = boxes; each = each ++ rest; kinds = s })
 unfolding is_below name_count
-frame_end image names boxes b k each s p l e t = record {
-  names = e;
-  boxes = p.all;
-  at = λ c h. (p.placed c (omega (arith, p.all))).at;
-  sites = λ c h. (p.placed c (omega (arith, p.all))).sites;
-  lines = λ c h. (p.placed c (omega (arith, p.all))).lines ∙ total_lines image c;
-  listed = λ n h. t.listed.at n h ∙ ap (λ (m : ℕ). n below m) e;
-  free = of_kind image names 0 s.free e t.free;
-  restricted = of_kind image names 1 s.restricted e t.restricted;
-  received = of_kind image names 2 s.received e t.received;
-  exposed = of_kind image names 3 s.exposed e t.exposed;
-}
+frame_end image names boxes b k each rest s p l e t =
+    let placed : (c : ℕ) → c < boxes_of image → BoxPlaceOf image (sites_block image c) (get_or (each ++ rest) c nowhere) =
+    λ c h. subst (BoxPlaceOf image (sites_block image c)) (sym (get_or-append each rest nowhere c (omega (arith, p.long, p.all)))) (p.placed c (omega (arith, p.all))) in
+    record {
+      names = e;
+      boxes = p.all;
+      at = λ c h. (placed c h).at;
+      sites = λ c h. (placed c h).sites;
+      lines = λ c h. (placed c h).lines ∙ total_lines image c;
+      listed = λ n h. t.listed.at n h ∙ ap (λ (m : ℕ). n below m) e;
+      free = of_kind image names 0 s.free e t.free;
+      restricted = of_kind image names 1 s.restricted e t.restricted;
+      received = of_kind image names 2 s.received e t.received;
+      exposed = of_kind image names 3 s.exposed e t.exposed;
+    }
 
 pub ruleset layouts = (
   rules,
@@ -250,6 +257,7 @@ pub ruleset layouts = (
   head_inside,
   head_long,
   names_few,
+  boxes_few,
   frame_start,
   box_small,
   total_few,

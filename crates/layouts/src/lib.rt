@@ -42,7 +42,7 @@ pub struct Laid<'a> {
     pub ghost of: { LayoutOf image.now layout },
 }
 
-// Name n, of a kind, put in.
+// Name n, of a kind, put in. The kind is the image's word, compared with each kind's number with no branch: a NameKind would be matched.
 fn insert_kind(s: Kinds, n: NameNo, kind: u64) -> Kinds
     ensures { KindInserted s n.0 kind result }
 {
@@ -70,6 +70,7 @@ fn kind_sets(head: &[u8; 512], names: usize) -> Kinds
     };
     for n in 0..names {
         let kind = blocks::inside::data_word(head, 2 + n);
+        // n is below 60: u8 has no From<usize>.
         s = insert_kind(s, NameNo(n as u8), kind);
     }
     s
@@ -116,13 +117,14 @@ pub fn frame_of(right: RightBlocks<'_>) -> Layout
 {
     let blocks = right.blocks;
     let head = blocks::inside::block(blocks.image, 0);
+    // Words of the image: usize has no From<u64>.
     let names = blocks::inside::data_word(head, 0) as usize;
     let boxes = blocks::inside::data_word(head, 1) as usize;
     let kinds = kind_sets(head, names);
     let mut each = [NOWHERE; 8];
     let mut k = 1;
-    for b in 0..boxes {
-        each[b] = box_place(blocks, k);
+    for place in &mut each[..boxes] {
+        *place = box_place(blocks, k);
         k += 1 + block_order::line_blocks(blocks, k + 1);
     }
     Layout {
@@ -141,14 +143,13 @@ pub fn layout_of<'a>(right: RightBlocks<'a>) -> Laid<'a>
     let image = right.blocks.image;
     let frame = frame_of(right);
     let mut each = frame.each;
-    for b in 0..frame.boxes {
-        let place = frame.each[b];
+    for place in &mut each[..frame.boxes] {
         let lines = Lines {
             image,
             k: place.at,
             n: place.lines,
         };
-        each[b].bound = box_runs::bound_by(lines);
+        place.bound = box_runs::bound_by(lines);
     }
     Laid {
         image,
@@ -158,16 +159,12 @@ pub fn layout_of<'a>(right: RightBlocks<'a>) -> Laid<'a>
 
 impl Layout {
     // The first box whose lines bind a name.
-    #[tactic(auto, using(crate::proofs::OwnerLaws::owners))]
     pub fn owner_of(&self, n: NameNo) -> Option<usize>
         requires { self.now.boxes ≤ 8 }
         ensures { option_in result ≡ first_binder self.now.each self.now.boxes n.0 }
     {
-        for b in 0..self.boxes {
-            if sets::contains(self.each[b].bound, n) {
-                return Some(b);
-            }
-        }
-        None
+        self.each[..self.boxes]
+            .iter()
+            .position(|place| sets::contains(place.bound, n))
     }
 }

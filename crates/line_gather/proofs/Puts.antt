@@ -3,7 +3,7 @@ use mathlib.Core.Path.{◌≡◌, refl, sym, ap, subst, ◌∙◌}
 use mathlib.Core.Bool.{Bool, true, false}
 use mathlib.Core.List.{List}
 use mathlib.Core.Logic.{◌⊎◌, inl, inr, ⊎_elim}
-use Prim.Native.Nat.{ℕ, ◌+◌, ◌*◌, ◌/◌, ◌%◌, ◌≤◌, ◌<◌, zero-le}
+use Prim.Native.Nat.{ℕ, ◌+◌, ◌%◌, ◌≤◌, ◌<◌, zero-le}
 use native.Mathlib.Nat.{not-suc-le-zero, le_antisymm}
 use native.Mathlib.Omega.{arith}
 use native.Mathlib.Decide.{ℕ_discrete}
@@ -194,13 +194,10 @@ module _ (model estimate : List ℕ) (k n i : ℕ) (there : LinesOfNames model k
   pub place-room : i < 128
   place-room = omega (arith, there.there.few)
 
-  pub line-there : 512 * (k + 1 + i / 31 + 1) ≤ length model
-  line-there = there.there.there i h
-
   pub line-named : (l : paper.Line) → l ≡ line_record_at model k i → LineOfNames l
   line-named l e = subst LineOfNames (sym e) (there.each i h)
 
 pub second_name : (l : Line) → LineOfNames (line_in l) → l.name2.0 < 62
 second_name l f = omega (arith, f.second)
 
-pub ruleset gathering = (rules, gathers_end, room, place-room, line-there, line-named, second_name)
+pub ruleset gathering = (rules, gathers_end, room, place-room, line-named, second_name)

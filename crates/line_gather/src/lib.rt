@@ -1,14 +1,34 @@
 #![tactic(auto)]
-// What the lines of a box name, gathered in one walk with no branch on the operation: the first names of lines by operation, what outputs send
-// by channel, and the inputs and exposes in a list.
+// What the lines of a box name, gathered in one walk, whose machine code has no branch on the operation: the first names of lines by operation,
+// what outputs send by channel, and the inputs and exposes in a list.
 // Bounds of indices and counts stand in the clauses: a type for each bound would be taken apart at every use.
 ghost use Rattle.std.specs.Prelude.{◌≡◌, ◌<◌, ◌≤◌, length, replicate};
+ghost use Rattle.records.specs.Places.{line_record_at};
 ghost use Rattle.records.specs.Records.{line_in};
 ghost use Rattle.line_gather.specs.Gathered.{LinesOfNames, NamePut, SentPut, ListPut, Gathers};
 
 use clauses::NamedLine;
-use records::inside::line;
-use records::{Line, Op};
+use records::{Line, Lines, Op};
+
+// Lines of a model that has been read: their names are below 60.
+#[derive(Clone, Copy)]
+pub struct NamedLines<'a> {
+    pub lines: Lines<'a>,
+    pub ghost named: { LinesOfNames lines.image.now lines.k lines.n },
+}
+
+impl<'a> NamedLines<'a> {
+    // Line i.
+    #[tactic(auto, using(crate::proofs::Puts::gathering))]
+    pub fn line(&self, i: usize) -> NamedLine
+        requires { i < self.now.lines.n }
+        ensures { line_in result.line ≡ line_record_at self.now.lines.image.now self.now.lines.k i }
+    {
+        NamedLine {
+            line: self.lines.line(i),
+        }
+    }
+}
 
 // The first name of a line put into the set of its operation.
 #[tactic(auto, using(crate::proofs::Puts::puts))]
@@ -36,6 +56,7 @@ fn put_line(listed: &mut [u8; 128], c: usize, i: usize, l: Line) -> usize
     requires line { i < 128 }
     ensures { ListPut listed.old c i (line_in l) listed.new result }
 {
+    // A line's number is below 128: u8 has no From<usize>.
     listed[c] = i as u8;
     if (l.op == Op::Input as u8) | (l.op == Op::Expose as u8) {
         c + 1
@@ -44,30 +65,25 @@ fn put_line(listed: &mut [u8; 128], c: usize, i: usize, l: Line) -> usize
     }
 }
 
-// The list is lent and its count answered: fixed memory, and no large array by value.
-// The n lines after block k, into arrays of zeros; how many are in the list. Asks of the estimate only the blocks that it reads.
+// The lines, into arrays of zeros; how many are in the list. Asks of the estimate only the blocks that it reads. Three arrays are lent and a count
+// answered: fixed memory, no large array by value. A struct of them would be lent in their place, and taken apart by each function that fills one.
 #[tactic(auto, using(crate::proofs::Puts::gathering))]
 pub fn gather(
-    model: &[u8],
+    named: NamedLines<'_>,
     estimate: &[u8],
-    k: usize,
-    n: usize,
     ops: &mut [u64; 16],
     sent: &mut [u64; 64],
     listed: &mut [u8; 128],
 ) -> usize
-    requires lines { LinesOfNames model.now k n }
     requires there { 512 ≤ length estimate.now }
     requires ops_empty { ops.old ≡ replicate 16 0 }
     requires sent_empty { sent.old ≡ replicate 64 0 }
     requires list_empty { listed.old ≡ replicate 128 0 }
-    ensures { Gathers model.now estimate.now k n ops.new sent.new listed.new result }
+    ensures { Gathers named.entry.lines.image.now estimate.now named.entry.lines.k named.entry.lines.n ops.new sent.new listed.new result }
 {
     let mut c = 0;
-    for i in 0..n {
-        let l = NamedLine {
-            line: line(model, k, i),
-        };
+    for i in 0..named.lines.n {
+        let l = named.line(i);
         put_name(ops, l.line);
         put_sent(sent, l, estimate::rho(estimate, l.line.name2));
         c = put_line(listed, c, i, l.line);

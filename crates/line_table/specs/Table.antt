@@ -2,6 +2,8 @@
 -- (first and second), what it binds (first and second), and its children (first and second). A table is 16 words; nine tables stand one after the
 -- other. Assumes nothing.
 use Rattle.std.specs.Prelude.{List, [], ◌∷◌, ℕ, ◌+◌, ◌-◌, ◌*◌, ◌%◌, ◌^◌, get_or}
+use Rattle.line_table.specs.declared.Part.{Part}
+use Rattle.line_table.specs.declared.Part.TheVariants.{Zero, DeniedFirst, DeniedSecond, UsedFirst, UsedSecond, BoundFirst, BoundSecond, ChildFirst, ChildSecond}
 
 -- all digits; the highest, which marks a line as some line's child
 abbrev pub full : ℕ
@@ -23,6 +25,18 @@ op_table a r c e f =
     ∷ 0 ∷ mark ∷ mark ∷ mark ∷ mark ∷ mark ∷ mark ∷ mark ∷ mark ∷ 0 ∷ 0 ∷ 0 ∷ 0 ∷ 0 ∷ 0 ∷ 0
     ∷ 0 ∷ mark ∷ 0 ∷ 0 ∷ 0 ∷ 0 ∷ 0 ∷ 0 ∷ 0 ∷ 0 ∷ 0 ∷ 0 ∷ 0 ∷ 0 ∷ 0 ∷ 0
     ∷ []
+
+-- the number of a table
+abbrev pub part_number : Part → ℕ
+part_number Zero = 0
+part_number DeniedFirst = 1
+part_number DeniedSecond = 2
+part_number UsedFirst = 3
+part_number UsedSecond = 4
+part_number BoundFirst = 5
+part_number BoundSecond = 6
+part_number ChildFirst = 7
+part_number ChildSecond = 8
 
 -- the word of table c for the operation of a line's first word w
 unfoldable pub row : List ℕ → ℕ → ℕ → ℕ

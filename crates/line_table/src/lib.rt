@@ -3,7 +3,7 @@
 // Bounds of indices and counts stand in the clauses: a type for each bound would be taken apart at every use.
 ghost use Rattle.std.specs.Prelude.{◌≡◌, ◌+◌, ◌/◌, ◌%◌, ◌^◌, ◌<◌};
 ghost use Rattle.std.specs.Int.Bits.{bit_and, bit_or};
-ghost use Rattle.line_table.specs.Table.{op_table, row};
+ghost use Rattle.line_table.specs.Table.{op_table, part_number, row};
 ghost use Rattle.line_table.specs.LineWords.{first, second, wrong, bound, named};
 ghost use Rattle.line_table.specs.Told.{Typed};
 
@@ -26,7 +26,7 @@ pub enum Part {
     ChildSecond = 8,
 }
 
-// One table after another, 16 words each: nine fields for each of 16 operations are no shorter. Words that depend on the names are 0 here.
+// One table after another, 16 words each, flat as `op_table` is: nine fields or rows are no shorter. Words that depend on the names are 0 here.
 const BY_OPERATION: [u64; 144] = [
     0xffff_ffff_ffc0_c0f0,
     0xff80_ff80_ffc0_c0f0,
@@ -195,16 +195,15 @@ pub fn table(kinds: Kinds) -> [u64; 144]
     t
 }
 
-// The word of table k for the operation of a line's first word w.
+// The word of a table for the operation of a line's first word w: usize has no From<u64>.
 #[tactic(auto, unfolding(crate::specs::Table::row))]
-pub fn at(t: &[u64; 144], k: usize, w: u64) -> u64
-    requires { k < 9 }
-    ensures { result ≡ row t.now k w }
+pub fn at(t: &[u64; 144], p: Part, w: u64) -> u64
+    ensures { result ≡ row t.now (part_number p) w }
 {
-    t[16 * k + (w % 16) as usize]
+    t[16 * p as usize + (w % 16) as usize]
 }
 
-// The set of the name of the low six digits.
+// The set of the name of the low six digits: it takes them of what it gets, so a division is enough.
 pub fn one(n: u64) -> u64
     ensures { result ≡ 2 ^ (n % 64) }
 {
@@ -216,18 +215,17 @@ pub fn one(n: u64) -> u64
 pub fn wrong_digits(t: &[u64; 144], w: u64) -> u64
     ensures { result ≡ wrong t.now w }
 {
-    (w & at(t, Part::Zero as usize, w))
-        | (one(w / 0x100) & at(t, Part::DeniedFirst as usize, w))
-        | (one(w / 0x1_0000) & at(t, Part::DeniedSecond as usize, w))
+    (w & at(t, Part::Zero, w))
+        | (one(w / 0x100) & at(t, Part::DeniedFirst, w))
+        | (one(w / 0x1_0000) & at(t, Part::DeniedSecond, w))
 }
 
-// The names of a line that tables k and k + 1 have, of its first and of its second name.
+// The names of a line that one table has of its first name and another of its second.
 #[tactic(auto, unfolding(crate::specs::LineWords::first, crate::specs::LineWords::second))]
-fn names(t: &[u64; 144], k: usize, w: u64) -> u64
-    requires { k < 8 }
-    ensures { result ≡ bit_or (bit_and (first w) (row t.now k w)) (bit_and (second w) (row t.now (k + 1) w)) }
+fn names(t: &[u64; 144], p: Part, q: Part, w: u64) -> u64
+    ensures { result ≡ bit_or (bit_and (first w) (row t.now (part_number p) w)) (bit_and (second w) (row t.now (part_number q) w)) }
 {
-    (one(w / 0x100) & at(t, k, w)) | (one(w / 0x1_0000) & at(t, k + 1, w))
+    (one(w / 0x100) & at(t, p, w)) | (one(w / 0x1_0000) & at(t, q, w))
 }
 
 // The names that a line binds.
@@ -235,7 +233,7 @@ fn names(t: &[u64; 144], k: usize, w: u64) -> u64
 pub fn bound_names(t: &[u64; 144], w: u64) -> u64
     ensures { result ≡ bound t.now w }
 {
-    names(t, Part::BoundFirst as usize, w)
+    names(t, Part::BoundFirst, Part::BoundSecond, w)
 }
 
 // The names that a line uses and that are not free, but for those of its type.
@@ -243,7 +241,7 @@ pub fn bound_names(t: &[u64; 144], w: u64) -> u64
 pub fn used_names(t: &[u64; 144], w: u64) -> u64
     ensures { result ≡ named t.now w }
 {
-    names(t, Part::UsedFirst as usize, w)
+    names(t, Part::UsedFirst, Part::UsedSecond, w)
 }
 
 // Wrong digits of a type: only an expose has one, and its names are free or bound above.
@@ -252,7 +250,7 @@ pub fn typed(all: u64, rest: u64, w: u64, names: u64, v: u64) -> u64
     ensures { Typed all rest w names v result }
 {
     if w % 16 == Op::Expose as u64 {
-        if records::names::type_fits(all, NameNo((w / 0x100 % 256) as u8), names) {
+        if records::names::type_fits(all, NameNo(w.to_le_bytes()[1]), names) {
             (names & rest) & !v
         } else {
             1

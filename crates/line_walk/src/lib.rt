@@ -1,7 +1,7 @@
 #![tactic(auto)]
 // One walk over a box's lines that may only say "all right": a line by itself, in its tree, and where its names reach. Wrong digits are joined.
 // Bounds of indices and counts stand in the clauses: a type for each bound would be taken apart at every use.
-ghost use Rattle.std.specs.Prelude.{◌≡◌, ◌+◌, ◌*◌, ◌/◌, ◌%◌, ◌<◌, ◌≤◌, length, get_or, set, replicate};
+ghost use Rattle.std.specs.Prelude.{◌≡◌, ◌<◌, ◌≤◌, replicate};
 ghost use Rattle.line_table.specs.Table.{op_table};
 ghost use Rattle.line_walk.specs.Told.{OwnTold, ChildrenTold, Stepped, Fresh, Next, LinesTold};
 
@@ -27,9 +27,10 @@ fn own_wrong(t: &[u64; 144], all: u64, rest: u64, w: u64, names: u64, v: u64, se
 fn children_wrong(t: &[u64; 144], w: u64, here: u64, up: &mut [u64; 128]) -> u64
     ensures { ChildrenTold t.now w here up.old result up.new }
 {
+    // A place is the low seven digits of a child, no byte of the word: usize has no From<u64>.
     let first = replace(&mut up[(w / 0x1_0000_0000 % 128) as usize], here);
     let second = replace(&mut up[(w / 0x1_0000_0000_0000 % 128) as usize], here);
-    (first & at(t, Part::ChildFirst as usize, w)) | (second & at(t, Part::ChildSecond as usize, w))
+    (first & at(t, Part::ChildFirst, w)) | (second & at(t, Part::ChildSecond, w))
 }
 
 // Line i, of the words w and names.
@@ -98,7 +99,8 @@ fn unmark(up: &mut [u64; 128], n: usize)
     up[0] = 0x8000_0000_0000_0000;
 }
 
-// The lines of a box before which others bind a set. Where no wrong digit is found every line fits.
+// The lines of a box before which others bind a set. Where no wrong digit is found every line fits. up has a word for each of 128 places: fixed
+// memory.
 #[tactic(auto, using(crate::proofs::Walks::walks))]
 pub fn walk_lines(lines: Lines<'_>, t: &[u64; 144], kinds: Kinds, start: u64) -> Walked
     requires block { lines.k < 100 }

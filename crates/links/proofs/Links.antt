@@ -1,17 +1,23 @@
--- The union of a box's types; and boxes that are linked, one after another. Assumes nothing.
+-- The union of a box's types; and boxes that are linked, and all of them apart. Assumes nothing.
 use mathlib.Core.Path.{◌≡◌, sym, ap, ◌∙◌}
 use mathlib.Core.Bool.{Bool, true, false, not}
-use Prim.Native.Nat.{ℕ, ◌≤◌, ◌<◌}
+use mathlib.Core.List.{List}
+use Prim.Native.Nat.{ℕ, ◌<◌, zero-le}
+use native.Mathlib.Omega.{arith}
 use borrow.Author.Rules.{rules}
-use Rattle.definitions.specs.Bounded.{◌implies◌, ◌isnt◌}
+use lib.ListN.{length, get_or}
+use Rattle.std.specs.Prelude.{MatchBool}
+use Rattle.std.specs.List.{range_with_len, AllWithin, HoldsAt}
+use Rattle.std.proofs.lemmas.List.FromFn.{length-range_with_len, get_or-range_with_len}
+use Rattle.definitions.specs.Bounded.{◌implies◌, ◌isnt◌, all_below}
 use Rattle.definitions.specs.Sets.{has, for_some, meets}
 use Rattle.definitions.specs.Estimate.{Estimate}
 use Rattle.definitions.specs.ShutOff.{linked, shut_off}
-use Rattle.definitions.proofs.Bounded.{isnt_iff, true_of, of_true, false_of, same_test}
+use Rattle.definitions.proofs.Bounded.{isnt_iff, all_iff, true_of, of_true, false_of, not-false, same_test}
 use Rattle.definitions.proofs.Sets.{for_some_iff, for_some_cong, meets_iff, meets_comm}
-use Rattle.definitions.proofs.Loops.{Passing, fails, holds, passing_start, passing_turn, passing_stop, passing_end}
 use Rattle.sets.specs.declared.NameNo.{NameNo}
 use Rattle.sets.specs.Each.{UnionOfEach}
+use Rattle.sets.proofs.Ranges.{Each, One, all_numbers}
 use Rattle.clauses.proofs.Members.{UnionOf, left_62, names_shown}
 use Rattle.links.specs.Types.{Types}
 
@@ -60,16 +66,15 @@ module _ (h k : ℕ) (c : Bool) where
   unfolding ◌implies◌
   other_box x y f e q = ap not e ∙ sym q ∙ sym (ap (λ (z : Bool). z implies c) (true_of (k isnt h) ((isnt_iff k h).1 f)))
 
--- a box that is linked, and the end of the walk over the boxes
-module _ (e : Estimate) (boxes h k : ℕ) where
-  pub shut_stop : (b : Bool) → k < boxes → b ≡ (k isnt h implies not (linked e h k)) → b ≡ false → false ≡ shut_off e boxes h
-  unfolding shut_off
-  shut_stop b = passing_stop boxes (λ j. j isnt h implies not (linked e h j)) k b
+-- box k is box h, or not linked to it; the boxes, by what is answered for each
+abbrev pub is_apart : Estimate → ℕ → ℕ → Bool
+is_apart e h k = k isnt h implies not (linked e h k)
 
-  pub shut_end : Passing (λ j. j isnt h implies not (linked e h j)) k → boxes ≤ k → true ≡ shut_off e boxes h
-  unfolding shut_off
-  shut_end = passing_end boxes (λ j. j isnt h implies not (linked e h j)) k
+pub shut_is : (e : Estimate) (boxes h : ℕ) (r : Bool) → MatchBool r (Each (λ k. true ≡ is_apart e h k) 0 boxes) (One (λ k. false ≡ is_apart e h k) 0 boxes)
+    → r ≡ shut_off e boxes h
+unfolding shut_off
+shut_is e boxes h = all_numbers (is_apart e h) boxes
 
 pub ruleset unions = (rules, names_shown, types_union, types_as, linked_as)
 
-pub ruleset apart = (rules, fails, holds, passing_start, passing_turn, shut_stop, shut_end, same_box, other_box)
+pub ruleset apart = (rules, same_box, other_box)

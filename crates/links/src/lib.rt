@@ -70,10 +70,5 @@ pub fn shut_off(e: Estimate<'_>, h: usize) -> bool
         h,
         types: types(e, h),
     };
-    for k in 0..e.boxes {
-        if !typed.same_or_apart(k) {
-            return false;
-        }
-    }
-    true
+    (0..e.boxes).all(|k| typed.same_or_apart(k))
 }

@@ -1,5 +1,5 @@
 -- Laws of the lookups. Assumes nothing.
-use mathlib.Core.Path.{◌≡◌, ap, sym, ◌∙◌}
+use mathlib.Core.Path.{◌≡◌, refl, ap, sym, ◌∙◌}
 use mathlib.Core.Logic.{◌≢◌}
 use mathlib.Core.Bool.{Bool, true, false, ◌&&◌, ◌||◌}
 use mathlib.Core.List.{List}
@@ -9,16 +9,20 @@ use native.Mathlib.Omega.{arith}
 use native.Mathlib.Decide.{dec_lt}
 use borrow.Author.Rules.{rules}
 use lib.Dec.{eqb}
+use Rattle.std.specs.Prelude as code
+use Rattle.std.specs.Prelude.{Some, None, MatchOption, MatchBool}
 use Rattle.definitions.specs.Bounded.{◌and◌, ◌is◌, ◌isnt◌, ◌below◌, any_below, some_if, first_below}
 use Rattle.definitions.specs.Model.{kind_of_name}
 use Rattle.definitions.specs.Image.{kinds_of, model_of}
 use Rattle.definitions.specs.Record.{held, sites, site, subject, flag, type_word, binding}
 use Rattle.definitions.specs.Moves.{site_with, types_share, value_in}
-use Rattle.definitions.proofs.Bounded.{and_is, and_iff, is_iff, isnt_iff, below_iff, or_is, true_of, of_true, false_of, first_stop, each_none, none_each, none_fault}
-use Rattle.definitions.proofs.Loops.{Missing, missing-start, missing-turn, missing_stop, missing_end, any_start, any_turn}
+use Rattle.definitions.proofs.Bounded.{and_is, and_iff, is_iff, isnt_iff, below_iff, or_is, true_of, of_true, false_of, first_stop, each_none, none_each, none_fault, not-false}
+use Rattle.definitions.proofs.Loops.{Missing, any_start, any_turn}
 use Rattle.definitions.proofs.Image.{model_kinds}
+use Rattle.sets.specs.Options.{option_in}
+use Rattle.sets.proofs.Ranges.{Each, One, any_numbers}
 use Rattle.lookups.specs.Found.{site_is, type_is, type_has, shared_at}
-use Rattle.lookups.proofs.Ready.{read_head, ready_box, ready_thread, line-there, line-found}
+use Rattle.lookups.proofs.Ready.{read_head, ready_box, ready_thread, line-there, line-found, first_listed, sent_listed, subject_is, sent_is}
 
 -- a name's value, by its kind
 module _ (image y : List ℕ) (n k : ℕ) (e : k ≡ kind_of_name (kinds_of image) n) where
@@ -78,6 +82,14 @@ module _ (r : List ℕ) (v f : ℕ) where
           (λ t. q ((below_iff j (sites r)).0 ((and_iff (j below sites r) (subject (site r j) is v)).0
           ((and_iff (j below sites r and subject (site r j) is v) (flag (site r j) is f)).0 t).0).0))
 
+  -- what a search of all sites finds
+  pub site_first : (o : code.Option ℕ) (n : ℕ) → n ≡ sites r → sites r ≤ 16
+      → MatchOption o ((k : ℕ) → 0 ≤ k → k < n → false ≡ site_is r v f k) (λ i. (0 ≤ i) × (i < n) × (true ≡ site_is r v f i) × ((k : ℕ) → 0 ≤ k → k < i → false ≡ site_is r v f k))
+      → option_in o ≡ site_with r v f
+  site_first None n z most h = site_none n n (record { each = λ j l t. not-false (sym (h j (omega arith) l)) t }) z (omega arith)
+  site_first (Some i) n z most h =
+      site_found i n true (record { each = λ j l t. not-false (sym (h.3 j (omega arith) l)) t }) z most h.1 h.2 refl
+
 -- ---- types that share a held name
 
 pub type_turn : (y : List ℕ) (v j w : ℕ) (b a : Bool) → b ≡ any_below j (type_is y v) → w ≡ type_word y j → a ≡ eqb v w
@@ -105,15 +117,16 @@ pub share_all : (x y : List ℕ) (b : Bool) → b ≡ any_below 8 (shared_at x y
 unfolding types_share shared_at type_has type_is
 share_all x y b e = e
 
-pub share_some : (x y : List ℕ) (j : ℕ) (b : Bool) → b ≡ shared_at x y j → b ≡ true → j < 8 → true ≡ types_share x y
-share_some x y j b e t l = share_all x y true (missing_stop 8 (shared_at x y) j b l e t)
+-- what a search of all words finds
+pub share_any : (x y : List ℕ) (b : Bool) → MatchBool b (One (λ j. true ≡ shared_at x y j) 0 8) (Each (λ j. false ≡ shared_at x y j) 0 8) → b ≡ types_share x y
+share_any x y b h = share_all x y b (any_numbers (shared_at x y) 8 b h)
 
 pub ruleset lines = (rules, ready_box, ready_thread, line-there, line-found)
 
 pub ruleset values = (rules, read_head, value_free, value_bound)
 
-pub ruleset finds = (rules, site_tested, site_found, site_none, missing-start, missing-turn)
+pub ruleset threads = (rules, first_listed, sent_listed, subject_is, sent_is)
+
+pub ruleset finds = (rules, site_tested)
 
 pub ruleset types = (rules, any_start, type_turn, type_end, shared_none, shared_by)
-
-pub ruleset shares = (rules, missing-start, missing-turn, missing_end, share_some, share_all)

@@ -1,5 +1,5 @@
 -- What is known of a box record that is in order, in a model that is read. Assumes nothing.
-use mathlib.Core.Path.{◌≡◌, ap, sym, ◌∙◌}
+use mathlib.Core.Path.{◌≡◌, ap, subst, sym, ◌∙◌}
 use mathlib.Core.Logic.{∥∥₁_elim}
 use native.Mathlib.Bridge.{le_prop}
 use native.Mathlib.Nat.{ℕ_set}
@@ -14,14 +14,17 @@ use Rattle.definitions.specs.Model.{Line, Box, Model, box_at, line_at, line_coun
 use Rattle.definitions.specs.Image.{line_record, name_count, boxes_of, sites_block, lines_of, box_of_image, model_of}
 use Rattle.definitions.specs.ReadModel.{read_model}
 use Rattle.definitions.specs.Record.{threads, sites, thread, line}
-use Rattle.definitions.specs.Moves.{thread_line}
+use Rattle.definitions.specs.Moves.{value_in, thread_line, value1, value2}
 use Rattle.definitions.proofs.Image.{model_count, model_box, model_kinds, model_names, box_lines, box_line}
 use Rattle.definitions.proofs.Valid.{Valid, ValidLine}
 use Rattle.definitions.proofs.ReadModel.{Blocks, read_iff, valid_image, lines_there}
 use Rattle.definitions.proofs.StateRules.{thread_iff, RecordFits, record_iff}
 use Rattle.layouts.specs.LayoutOf.{nowhere}
 use Rattle.model.specs.declared.ReadModel.{ReadModel}
-use Rattle.lookups.specs.Ready.{BoxReady}
+use Rattle.records.specs.Records.{line_in}
+use Rattle.lookups.specs.declared.ReadyThread.{ReadyThread}
+use Rattle.lookups.specs.Ready.{kinds_in, BoxReady}
+use Rattle.lookups.specs.Threads.{subject_of, sent_of}
 
 -- names of a model that is read
 pub read_blocks : (image : List ℕ) → read_model image ≡ none → Blocks image
@@ -104,3 +107,31 @@ module _ {m : ReadModel} {b : ℕ} {r : List ℕ} (k : BoxReady m b r) where
           q ∙ ap (λ (j : ℕ). line_record (block_of m.image.now (j + 1 + i / 31)) (i % 31)) at
           ∙ ap (λ (j : ℕ). line_record (block_of m.image.now (sites_block m.image.now b + 1 + j / 31)) (j % 31)) d
           ∙ sym (ap (λ (x : Box). line_at x (line (thread r t))) same_box ∙ box_line m.image.now b (line (thread r t)) below)
+
+-- ---- a thread with its line: the names of the line are listed
+
+module _ (y : ReadyThread) where
+  pub line_valid : ValidLine (model_of y.of.now.model.now.image.now) (line_in y.line)
+  unfolding thread_line
+  line_valid =
+      subst (ValidLine (model_of y.of.now.model.now.image.now)) (sym y.stands)
+      (((ready_valid y.of.now.ready).box y.of.now.b (ready_inside y.of.now.ready)).line (line (thread y.of.now.r.now y.t)) (ready_stands y.of.now.ready y.t y.live))
+
+  pub thread-slot : y.t < 16
+  thread-slot = ready_thread y.of.now.ready y.t y.live
+
+  pub first_listed : 3 ≤ y.line.op → y.line.name1.0 < name_count y.of.now.model.now.image.now
+  first_listed h = listed_name y.of.now.model.now.image.now y.line.name1.0 (first_of (model_of y.of.now.model.now.image.now) (line_in y.line) line_valid h)
+
+  pub sent_listed : y.line.op ≡ 4 → y.line.name2.0 < name_count y.of.now.model.now.image.now
+  sent_listed h = listed_name y.of.now.model.now.image.now y.line.name2.0 (line_valid.sent_listed h)
+
+  pub subject_is : (v : ℕ) → v ≡ value_in (kinds_in y.of.now.model.now) (thread y.of.now.r.now y.t) y.line.name1.0
+      → v ≡ subject_of y
+  unfolding value1
+  subject_is v e = e ∙ ap (λ (l : Line). value_in (kinds_in y.of.now.model.now) (thread y.of.now.r.now y.t) l.name1) y.stands
+
+  pub sent_is : (v : ℕ) → v ≡ value_in (kinds_in y.of.now.model.now) (thread y.of.now.r.now y.t) y.line.name2.0
+      → v ≡ sent_of y
+  unfolding value2
+  sent_is v e = e ∙ ap (λ (l : Line). value_in (kinds_in y.of.now.model.now) (thread y.of.now.r.now y.t) l.name2) y.stands

@@ -1,3 +1,4 @@
 pub mod Ready
 pub mod Found
 pub mod Inside
+pub mod Threads

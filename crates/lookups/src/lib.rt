@@ -2,7 +2,7 @@
 // What a thread of a box stands at, and what its names stand for; the site with a held name; types that share one. The image and the
 // record are read where they stand.
 // Bounds of indices and counts stand in the clauses: a type for each bound would be taken apart at every use.
-ghost use Rattle.std.specs.Prelude.{◌≡◌, ◌<◌, ◌≤◌};
+ghost use Rattle.std.specs.Prelude.{◌≡◌, ◌<◌, ◌≤◌, MatchOption};
 ghost use Rattle.std.proofs.Math.Option.{none};
 ghost use Rattle.definitions.specs.Limits.{slot_limit, type_limit};
 ghost use Rattle.definitions.specs.Image.{name_count, model_of};
@@ -18,6 +18,8 @@ use model::ReadModel;
 use records::{Line, NameKind};
 use sets::NameNo;
 use state::Held;
+
+mod threads;
 
 // The line at which thread t of box b stands. A move that writes the record reads it before, so it has no ReadyBox.
 #[tactic(auto, using(crate::proofs::Lookups::lines))]
@@ -38,14 +40,30 @@ pub struct ReadyBox<'a> {
     pub ghost ready: { BoxReady model.now b r.now },
 }
 
-impl<'a> ReadyBox<'a> {
-    // The line at which thread t stands.
-    pub fn thread_line(&self, t: usize) -> Line
-        requires live { t < words.threads self.now.r.now }
-        ensures { line_in result ≡ moves.thread_line (kinds_in self.now.model.now) (box_in self.now.model.now self.now.b) self.now.r.now t }
+impl ReadyBox<'_> {
+    // Thread t, with the line at which it stands, where the box has it.
+    pub fn thread(&self, t: usize) -> Option<ReadyThread<'_>>
+        ensures { MatchOption result (words.threads self.now.r.now ≤ t) (λ y. (t < words.threads self.now.r.now) × (y.of.now ≡ self.now) × (y.t ≡ t) × (line_in y.line ≡ moves.thread_line (kinds_in self.now.model.now) (box_in self.now.model.now self.now.b) self.now.r.now t)) }
     {
-        thread_line(self.model, self.b, self.r, t)
+        if state::threads(self.r) <= t {
+            return None;
+        }
+        Some(ReadyThread {
+            of: self,
+            t,
+            line: thread_line(self.model, self.b, self.r, t),
+        })
     }
+}
+
+// A thread of a box, and the line at which it stands, which is read once.
+#[derive(Clone, Copy)]
+pub struct ReadyThread<'a> {
+    pub of: &'a ReadyBox<'a>,
+    pub t: usize,
+    pub line: Line,
+    pub ghost live: { t < words.threads of.now.r.now },
+    pub ghost stands: { line_in line ≡ moves.thread_line (kinds_in of.now.model.now) (box_in of.now.model.now of.now.b) of.now.r.now t },
 }
 
 // What name n stands for in thread t: a free name holds itself, any other is bound. Asks of the model only that it is read.
@@ -73,20 +91,14 @@ fn site_is(r: &[u32; 1139], i: usize, v: Held, f: u32) -> bool
 }
 
 // The site of that subject and that word. A site is found by its held name.
-#[tactic(auto, using(crate::proofs::Lookups::finds))]
 pub fn site_with(r: &[u32; 1139], v: Held, f: u32) -> Option<usize>
     requires { words.sites r.now ≤ slot_limit }
     ensures { option_in result ≡ moves.site_with r.now v.0 f }
 {
-    for i in 0..state::sites(r) {
-        if site_is(r, i, v, f) {
-            return Some(i);
-        }
-    }
-    None
+    (0..state::sites(r)).find(|i| site_is(r, *i, v, f))
 }
 
-// The type of site i has v: all its words are looked at, with no branch.
+// The type of site i has v: all its words are looked at, with no branch, by their number, at which `state::type_word` reads one.
 #[tactic(auto, using(crate::proofs::Lookups::types))]
 fn type_has(r: &[u32; 1139], i: usize, v: Held) -> bool
     requires { i < slot_limit }
@@ -98,6 +110,8 @@ fn type_has(r: &[u32; 1139], i: usize, v: Held) -> bool
     }
     found
 }
+
+// A site is a record and a place in it: a struct of the two would be taken apart at each word.
 
 // Word j of the type of site i is a held name, which the type of site k of another record has.
 #[tactic(auto, using(crate::proofs::Lookups::types))]
@@ -115,16 +129,10 @@ fn shared_at(r: &[u32; 1139], i: usize, s: &[u32; 1139], k: usize, j: usize) -> 
 }
 
 // The types of site i and of site k of another record share a held name.
-#[tactic(auto, using(crate::proofs::Lookups::shares))]
 pub fn types_share(r: &[u32; 1139], i: usize, s: &[u32; 1139], k: usize) -> bool
     requires first { i < slot_limit }
     requires second { k < slot_limit }
     ensures { result ≡ moves.types_share (words.site r.now i) (words.site s.now k) }
 {
-    for j in 0..8 {
-        if shared_at(r, i, s, k, j) {
-            return true;
-        }
-    }
-    false
+    (0..8).any(|j| shared_at(r, i, s, k, j))
 }

@@ -296,9 +296,6 @@ module _ {rm : ReadModel} {b : ℕ} {r : List ℕ} (k : BoxReady rm b r) (t : �
     sends : AtLine (kinds_in rm) (box_in rm b) r t output
     sends = record { live = h; op_is = o }
 
-    pub sent_name : l.name2.0 < name_count rm.image.now
-    sent_name = listed_name rm.image.now l.name2.0 ((valid_line k t output sends l q).sent_listed (op_is_lem k t output sends l q))
-
     pub sent_value : (v : ℕ) → v ≡ value_in (kinds_in rm) (thread r t) l.name2.0 → v ≡ value2 (kinds_in rm) (box_in rm b) r t
     unfolding value2
     sent_value v e = e ∙ ap (λ (n : model.Line). value_in (kinds_in rm) (thread r t) n.name2) q

@@ -1,25 +1,30 @@
 // The two ends of an inter move, each in its own box's record: what the output sends, the input's thread, the output's thread.
 // Bounds of indices and counts stand in the clauses: a type for each bound would be taken apart at every use.
 // The record is in order only before the move, so its box's model and number are parameters.
+// A child becomes a word by `as`: u32 has no From<usize>.
 ghost use Rattle.std.specs.Prelude.{◌≡◌, ◌<◌};
 ghost use Rattle.definitions.specs.Model.{output, input};
 ghost use Rattle.definitions.specs.Record as words;
 ghost use Rattle.definitions.specs.Moves as moves;
 ghost use Rattle.lookups.specs.Ready.{kinds_in, box_in, BoxReady};
 
-use lookups::{ReadyBox, thread_line, value};
+use lookups::{ReadyBox, ReadyThread, thread_line};
 use model::ReadModel;
 use state::{Held, edits};
 
-// What thread t, which is at an output, sends.
+// What thread t, which is at an output, sends. The ReadyThread is built here: `ReadyBox::thread` answers an Option, and this thread is there.
 #[tactic(auto, using(crate::proofs::Lefts::ends))]
 pub fn sent(x: &ReadyBox<'_>, t: usize) -> Held
     requires live { t < words.threads x.now.r.now }
     requires there { (moves.thread_line (kinds_in x.now.model.now) (box_in x.now.model.now x.now.b) x.now.r.now t).op ≡ output }
     ensures { result.0 ≡ moves.value2 (kinds_in x.now.model.now) (box_in x.now.model.now x.now.b) x.now.r.now t }
 {
-    let l = x.thread_line(t);
-    value(x.model.image, x.r, t, l.name2)
+    let y = ReadyThread {
+        of: x,
+        t,
+        line: thread_line(x.model, x.b, x.r, t),
+    };
+    y.sent()
 }
 
 // Thread t, which is at an input, binds what it receives and goes on.

@@ -1,5 +1,6 @@
 // The site of an expose, written behind the others.
 // The record is lent for writing, so what holds of its names before is a clause.
+// A count becomes a word by `as`: u32 has no From<usize>.
 ghost use Rattle.std.specs.Prelude.{◌≡◌, ◌∷◌};
 ghost use Rattle.definitions.specs.Slots.{put};
 ghost use Rattle.definitions.specs.Image.{model_of};
@@ -11,7 +12,8 @@ ghost use Rattle.making.specs.Exposed.{NamesHeld, TypeRoom, SiteRoom};
 use lookups::value;
 use state::{Held, edits};
 
-// The held names of a type's names in thread t, ascending without repeats, into eight words that are zero: the lowest name is put in last.
+// The held names of a type's names in thread t, ascending without repeats, into eight words that are zero: the lowest name is put in last. A
+// recursion, as the definition is: a loop over the names would put the lowest in first, and want that insertions commute.
 #[tactic(auto, using(crate::proofs::Exposes::types))]
 fn type_names(model: &[u8], r: &mut [u32; 1139], t: usize, at: usize, names: u64)
     requires names { NamesHeld model.now r.old t names }

@@ -1,5 +1,6 @@
 // A move inside a box that is allowed, made in the box's record. The record is in order only before the move, so its box's model and number
 // are parameters.
+// A child becomes a word by `as`: u32 has no From<usize>.
 // Bounds of indices and counts stand in the clauses: a type for each bound would be taken apart at every use.
 ghost use Rattle.std.specs.Prelude.{◌≡◌, ◌≢◌, ◌+◌, ◌-◌, ◌≤◌, ◌∷◌};
 ghost use Rattle.definitions.specs.Record as words;
@@ -41,7 +42,8 @@ fn new(r: &mut [u32; 1139], t: usize, l: Line)
     edits::set_line(r, t, l.child1 as u32);
 }
 
-// A site is appended whose subject is the line's name with the next stamp; the thread binds it and goes on.
+// A site is appended whose subject is the line's name with the next stamp; the thread binds it and goes on. It ends as `new` does: calling it would
+// want that a site appended and a thread changed commute.
 fn expose(model: &ReadModel<'_>, r: &mut [u32; 1139], t: usize, l: Line)
     requires stamps { Stamps r.old t l }
     requires names { NamesHeld model.now.image.now r.old t l.names }

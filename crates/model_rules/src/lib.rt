@@ -1,5 +1,6 @@
 #![tactic(auto, using(crate::proofs::PassLaws::passes))]
-// Refusals 6 to 9, each over the whole model, boxes and records ascending.
+// Refusals 6 to 9, each over the whole model, boxes and records ascending. A loop over the boxes goes over their numbers, by which what is called
+// takes a box. Each pass puts its Lines together: a method of Laid would give image, block and count as equations to rewrite by.
 ghost use Rattle.std.specs.Prelude.{◌≡◌};
 ghost use Rattle.std.proofs.Math.Option.{none};
 ghost use Rattle.definitions.specs.Image.{model_of};

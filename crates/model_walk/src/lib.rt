@@ -20,7 +20,7 @@ use sets::NameNo;
 fn type_wrong(free: u64, w: u64, names: u64) -> u64
     ensures { TypeTold free w names result }
 {
-    u64::from(!records::names::type_fits(free, NameNo((w % 256) as u8), names))
+    u64::from(!records::names::type_fits(free, NameNo(w.to_le_bytes()[0]), names))
 }
 
 // Wrong digits of a site by its two words; free: the free names; used: the subjects of the sites before.
@@ -33,7 +33,8 @@ fn site_wrong(free: u64, used: u64, w: u64, names: u64) -> u64
     digits | subject | type_wrong(free, w, names)
 }
 
-// The n sites of block k, of a box before which others have a set of subjects. Where no wrong digit is found every site fits.
+// The n sites of block k, of a box before which others have a set of subjects. Where no wrong digit is found every site fits. By a site's number,
+// at which its two data words are read.
 #[tactic(auto, using(crate::proofs::SiteWalks::site_walks))]
 pub fn walk_sites(image: &[u8], k: usize, n: usize, free: u64, start: u64) -> Walked
     requires there { 512 * (k + 1) ≤ length image.now }
@@ -67,8 +68,7 @@ pub fn walk_boxes(image: &[u8], frame: Layout) -> Option<Layout>
     let mut used: u64 = 0;
     let mut seen: u64 = 0;
     let mut bad: u64 = 0;
-    for b in 0..frame.boxes {
-        let place = frame.each[b];
+    for place in &mut each[..frame.boxes] {
         let s = walk_sites(image, place.at, place.sites, kinds.free, used);
         let lines = Lines {
             image,
@@ -76,14 +76,10 @@ pub fn walk_boxes(image: &[u8], frame: Layout) -> Option<Layout>
             n: place.lines,
         };
         let w = walk_lines(lines, &t, kinds, seen);
-        each[b].bound = sets::intersection(w.names, complement(seen));
+        place.bound = sets::intersection(w.names, complement(seen));
         bad |= s.bad | w.bad;
         used = s.names;
         seen = w.names;
     }
-    if bad == 0 {
-        Some(Layout { each, ..frame })
-    } else {
-        None
-    }
+    (bad == 0).then_some(Layout { each, ..frame })
 }

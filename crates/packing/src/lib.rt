@@ -7,14 +7,15 @@ ghost use Rattle.analysis.specs.Answers.{not_accepted_in, verdict_in, reply_in};
 ghost use Rattle.packing.specs.Packed.{pack, pack_named, pack_verdict, pack_reply, call_tag, pack_call, pack_part};
 
 use analysis::{NoReply, NotAccepted};
-use refusals::Refusal;
+use refusals::{Refusal, Rule};
 use sets::NameNo;
 
+// A tag, a number, and the low 16 digits of each of two places. A place is a usize, from which u64 has no From.
 pub fn packed(tag: u8, n: u8, a: usize, b: usize) -> u64
     ensures { result ≡ pack tag n a b }
 {
-    (tag as u64)
-        + 0x100 * (n as u64)
+    u64::from(tag)
+        + 0x100 * u64::from(n)
         + 0x1_0000 * ((a % 65536) as u64)
         + 0x1_0000_0000 * ((b % 65536) as u64)
 }
@@ -23,10 +24,10 @@ pub fn packed(tag: u8, n: u8, a: usize, b: usize) -> u64
 fn packed_named(tag: u8, n: u8, a: usize, b: usize, name: NameNo) -> u64
     ensures { result ≡ pack_named tag n a b name.0 }
 {
-    packed(tag, n, a, b) + 0x1_0000_0000_0000 * (name.0 as u64)
+    packed(tag, n, a, b) + 0x1_0000_0000_0000 * u64::from(name.0)
 }
 
-// An answer of the checker that is not accepted.
+// An answer of the checker that is not accepted. The two refusals differ in the image's tag: one line each.
 #[tactic(auto, unfolding(crate::specs::Packed::pack_verdict))]
 fn of_not_accepted(e: NotAccepted) -> u64
     ensures { result ≡ pack_verdict (not_accepted_in e) }
@@ -60,12 +61,12 @@ pub fn of_reply(a: Result<bool, NoReply>) -> u64
     }
 }
 
-// From 10 on the call is refused, and not the model.
+// From 10 on, `Rule::Room`, the call is refused, and not the model.
 #[tactic(auto, using(crate::proofs::Tests::decided))]
 fn tag(n: u8) -> u8
     ensures { result ≡ call_tag n }
 {
-    if n < 10 { 2 } else { 6 }
+    if n < Rule::Room as u8 { 2 } else { 6 }
 }
 
 #[tactic(auto, unfolding(crate::specs::Packed::pack_call))]

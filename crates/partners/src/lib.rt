@@ -3,7 +3,7 @@
 // order: names of the channel ascending, then boxes, then their shown names.
 // A set of names is a word, since words are joined with & and |; that it has no digit past the names is a clause.
 // Bounds of indices and counts stand in the clauses: a type for each bound would be taken apart at every use.
-ghost use Rattle.std.specs.Prelude.{◌≡◌, ◌+◌, ◌*◌, ◌<◌, ◌≤◌, length};
+ghost use Rattle.std.specs.Prelude.{◌≡◌, ◌<◌};
 ghost use Rattle.definitions.specs.Bounded.{first_below};
 ghost use Rattle.definitions.specs.Sets as names;
 ghost use Rattle.definitions.specs.Estimate.{estimate_of};
@@ -20,13 +20,13 @@ use sets::NameNo;
 
 // What box k may send on c, within q, where the type x shares a name with eps(k, c).
 #[tactic(auto, using(crate::proofs::Partners::partners))]
-fn at_name(estimate: &[u8], x: u64, q: u64, k: usize, c: NameNo) -> Result<(), NameNo>
-    requires there { 512 * (3 + 2 * k) ≤ length estimate.now }
+fn at_name(e: Estimate<'_>, x: u64, q: u64, k: usize, c: NameNo) -> Result<(), NameNo>
+    requires within { k < e.boxes }
     requires name { c.0 < 62 }
-    ensures { within_in result ≡ fitting (estimate_of estimate.now) x q k c.0 }
+    ensures { within_in result ≡ fitting (estimate_of e.entry.image.now) x q k c.0 }
 {
-    if sets::intersects(x, estimate::eps(estimate, k, c)) {
-        subsets::missing(estimate::kap(estimate, k, c), q)
+    if sets::intersects(x, e.eps(k, c)) {
+        subsets::missing(e.kap(k, c), q)
     } else {
         Ok(())
     }
@@ -41,7 +41,7 @@ fn at_box(e: Estimate<'_>, b: usize, x: u64, q: u64, k: usize) -> Result<(), Nam
     if k == b {
         return Ok(());
     }
-    at_each(e.shown(k), |c| at_name(e.image, x, q, k, c))
+    at_each(e.shown(k), |c| at_name(e, x, q, k, c))
 }
 
 // The same for each box, ascending.

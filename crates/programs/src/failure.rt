@@ -25,15 +25,17 @@ struct Reason(io::Error);
 impl fmt::Display for Reason {
     fn fmt<W: fmt::Write>(&self, f: &mut fmt::Formatter<W>) -> fmt::Result {
         let e = self.0;
+        // Fixed memory, no heap: a Cursor over an array, and no String.
         let mut text = Cursor::new([0u8; 320]);
         let _ = write!(text, "{e}");
+        // usize has no From<u64>.
         let n = text.position() as usize;
         let bytes = text.into_inner();
         f.write_str(before_number(text_of(&bytes, n)))
     }
 }
 
-// The first n bytes as text.
+// The first n bytes as text: fixed memory, no String.
 fn text_of(bytes: &[u8], n: usize) -> &str {
     std::str::from_utf8(&bytes[..n.min(bytes.len())]).unwrap_or("")
 }

@@ -1,32 +1,22 @@
 #![tactic(auto)]
-// What the programs share: files read into buffers, numbers and sets written to standard output, and the checker on two files.
-ghost use Rattle.std.specs.Prelude.{◌≡◌, length};
+// What the programs share: files read into buffers, sets of names as text, and the checker on two files.
 ghost use Rattle.io.specs.Counts.{IsPrefixLen};
 
 use sets::Ascending;
 use std::io::{ErrorKind, Read};
 use std::rt::Files;
-use std::{fs, io};
+use std::{fmt, fs, io};
 
 mod failure;
 
-// Two buffers by name: a const argument is a literal, and each length stands in one place so.
+// The length of a model's buffer, one byte more than the largest model has: enough to refuse a file that is too long.
+pub const MODEL_BUFFER: usize = 20993;
 
-// One byte more than the largest model has: enough to refuse a file that is too long.
-pub fn model_buffer() -> [u8; 20993]
-    ensures { 20993 ≡ length result }
-{
-    [0; 20993]
-}
+// The length of an estimate's buffer, one byte more than the largest estimate has.
+pub const ESTIMATE_BUFFER: usize = 8705;
 
-// One byte more than the largest estimate has.
-pub fn estimate_buffer() -> [u8; 8705]
-    ensures { 8705 ≡ length result }
-{
-    [0; 8705]
-}
-
-// A file that is open for reading. The library's paths are text, so a path that is not UTF-8 opens no file.
+// A file that is open for reading. A path may be any bytes, and text would be narrower; the library's paths are text, so one that is not UTF-8
+// opens no file.
 fn open<R: Files>(rt: &R, path: &[u8]) -> io::Result<R::File> {
     match std::str::from_utf8(path) {
         Ok(text) => fs::open(rt, text),
@@ -34,7 +24,8 @@ fn open<R: Files>(rt: &R, path: &[u8]) -> io::Result<R::File> {
     }
 }
 
-// How many bytes one read put at the front of the buffer: none at the file's end, and none where the read fails.
+// How many bytes one read put at the front of the buffer: none at the file's end, and none where the read fails. A file that cannot be read counts
+// as empty, so a count and no Result.
 fn read_some<F: Read>(file: &mut F, buffer: &mut [u8]) -> usize
     ensures { IsPrefixLen result buffer.new }
 {
@@ -57,8 +48,8 @@ fn read_full<F: Read>(file: &mut F, buffer: &mut [u8]) -> usize
     done
 }
 
-// How many bytes of a file stand in the buffer, at most its length: none of a file that cannot be opened. A buffer and a count, as the library's
-// `read` has them: fixed memory, no heap.
+// How many bytes of a file stand in the buffer, at most its length. A file that cannot be opened or read counts as empty, so a count and no Result;
+// a buffer and a count, as the library's `read` has them: fixed memory, no heap.
 pub fn load<R: Files>(rt: &R, path: &[u8], buffer: &mut [u8]) -> usize
     ensures { IsPrefixLen result buffer.new }
 {
@@ -90,36 +81,23 @@ fn readable<R: Files + Eprint>(rt: &R, path: &[u8]) -> bool {
     }
 }
 
-// Bytes, as they are.
-pub fn write<R: Print>(rt: &R, bytes: &[u8]) {
-    let _ = rt.write_all(bytes);
-}
+// A set of names: its members, ascending, in braces with commas between. Nothing is promised of the text: the test programs alone write it, and
+// what they write is compared.
+#[derive(Clone, Copy)]
+pub struct Names(pub u64);
 
-// A number in decimal.
-fn decimal<R: Print>(rt: &R, n: u64) {
-    let _ = rt.print(n);
-}
-
-// A space and a number in decimal.
-pub fn number<R: Print>(rt: &R, n: u64) {
-    write(rt, b" ");
-    decimal(rt, n);
-}
-
-// A space and the members of s, ascending, in braces with commas between.
-pub fn set<R: Print>(rt: &R, s: u64) {
-    write(rt, b" {");
-    let mut between: &[u8] = b"";
-    for n in Ascending(s) {
-        write(rt, between);
-        decimal(rt, u64::from(n.0));
-        between = b",";
+impl fmt::Display for Names {
+    fn fmt<W: fmt::Write>(&self, f: &mut fmt::Formatter<W>) -> fmt::Result {
+        f.write_str("{")?;
+        let mut left = Ascending(self.0);
+        if let Some(first) = left.next() {
+            write!(f, "{}", first.0)?;
+        }
+        for n in left {
+            write!(f, ",{}", n.0)?;
+        }
+        f.write_str("}")
     }
-    write(rt, b"}");
-}
-
-pub fn end_line<R: Print>(rt: &R) {
-    write(rt, b"\n");
 }
 
 // Bytes, and a line on standard error where they could not be written.
@@ -137,8 +115,8 @@ fn report<R: Print + Eprint>(rt: &R, model: &[u8], estimate: &[u8]) {
 
 // The checker on two files. Of a file that is too long one byte past the limit is read, which is enough to refuse it.
 fn check_loaded<R: Files + Print + Eprint>(rt: &R, model_path: &[u8], estimate_path: &[u8]) {
-    let mut model = model_buffer();
-    let mut estimate = estimate_buffer();
+    let mut model = [0; MODEL_BUFFER];
+    let mut estimate = [0; ESTIMATE_BUFFER];
     let m = load(rt, model_path, &mut model);
     let e = load(rt, estimate_path, &mut estimate);
     report(rt, &model[..m], &estimate[..e]);

@@ -12,22 +12,9 @@ ghost use Rattle.record_clauses.specs.Known.{ShowsMet, LineFound};
 use crate::Broken;
 use clauses::NamedLine;
 use estimate::Estimate;
-use records::Op;
+use records::{Op, UnknownOp};
 use sets::NameNo;
 use sharing::{Gathered, Tables};
-
-// The operations that clauses speak of. A match over a line's number takes constants, and no casts.
-const RESTRICTION: u8 = Op::Restriction as u8;
-
-const OUTPUT: u8 = Op::Output as u8;
-
-const INPUT: u8 = Op::Input as u8;
-
-const EXPOSE: u8 = Op::Expose as u8;
-
-const HIDE: u8 = Op::Hide as u8;
-
-const UNHIDE: u8 = Op::Unhide as u8;
 
 // The clause is broken where a name is missing.
 pub fn broken_at(
@@ -55,12 +42,12 @@ pub fn gather(t: &Tables<'_>, b: usize, l: NamedLine, g: Gathered) -> Gathered
     ensures shows { ShowsMet (estimate_of t.now.estimate.image.now) t.now.estimate.boxes b (line_in l.line) result }
 {
     let e = t.estimate;
-    match l.line.op {
-        OUTPUT => {
+    match Op::try_from(l.line.op) {
+        Ok(Op::Output) => {
             let s = e.rho(l.line.name1);
             sharing::for_outputs(e.image, e.boxes, b, s, g)
         }
-        INPUT => {
+        Ok(Op::Input) => {
             let s = e.rho(l.line.name1);
             t.for_partners(b, s, sharing::for_inputs(e.image, e.boxes, b, s, g))
         }
@@ -82,16 +69,16 @@ pub fn by_operation(
     ensures { LineFound (estimate_of e.entry.image.now) e.entry.boxes b i (line_in l.line) (found_in result) }
 {
     let image = e.image;
-    match l.line.op {
-        RESTRICTION => broken_at(clauses::clause3(image, l.line), 3, b, i),
-        OUTPUT => broken_at(shortages::clause4(image, g.most, b, l), 4, b, i),
-        INPUT => {
+    match Op::try_from(l.line.op) {
+        Ok(Op::Restriction) => broken_at(clauses::clause3(image, l.line), 3, b, i),
+        Ok(Op::Output) => broken_at(shortages::clause4(image, g.most, b, l), 4, b, i),
+        Ok(Op::Input) => {
             broken_at(shortages::clause5(image, g.all, b, l), 5, b, i)?;
             broken_at(partners::clause6(e, g.asks, b, l), 6, b, i)
         }
-        EXPOSE => broken_at(clauses::clause7(image, b, l), 7, b, i),
-        HIDE => broken_at(clauses::clause8(image, b, l.line), 8, b, i),
-        UNHIDE => broken_at(clauses::clause9(image, b, l.line), 9, b, i),
-        _ => Ok(()),
+        Ok(Op::Expose) => broken_at(clauses::clause7(image, b, l), 7, b, i),
+        Ok(Op::Hide) => broken_at(clauses::clause8(image, b, l.line), 8, b, i),
+        Ok(Op::Unhide) => broken_at(clauses::clause9(image, b, l.line), 9, b, i),
+        Ok(Op::Nil | Op::Parallel | Op::Replication) | Err(UnknownOp) => Ok(()),
     }
 }

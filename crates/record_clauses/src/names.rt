@@ -1,4 +1,4 @@
-// Clause 1, by name.
+// Clause 1, by name. It asks of the estimate only the blocks that it reads: an Estimate would ask for all.
 // A set of names is a word, since words are joined with & and |; that it has no digit past the names is a clause.
 ghost use Rattle.std.specs.Prelude.{◌≤◌, length};
 ghost use Rattle.definitions.specs.Estimate.{estimate_of};
@@ -8,8 +8,7 @@ ghost use Rattle.record_clauses.specs.Known.{NamesFound};
 
 use crate::Broken;
 
-// The free names, ascending: the first that is not in its own set is the record, and is what is missing. Asks of the
-// estimate only the blocks that it reads.
+// The free names, ascending: the first that is not in its own set is the record, and is what is missing.
 pub fn names(estimate: &[u8], free: u64) -> Result<(), Broken>
     requires there { 512 ≤ length estimate.now }
     requires names { NamesOnly free }

@@ -1,4 +1,5 @@
-// A set of lines of a box, in one word. As the sets of names of 64 digits: one for both widths would need a trait of words with its laws.
+// A set of lines of a box, in one word of 128 digits, as sets of names are of 64: one for both would be a trait over the two widths, with laws for
+// its shifts and digits, in place of two functions.
 ghost use Rattle.std.specs.Prelude.{◌≡◌};
 ghost use Rattle.definitions.specs.Sets.{has};
 ghost use Rattle.records.specs.Records.{line_in};
@@ -26,7 +27,7 @@ fn with_line(s: LineSet, c: usize) -> LineSet
     if c < 128 { LineSet(s.0 | (1 << c)) } else { s }
 }
 
-// The children of a line put in.
+// The children of a line put in. `shape_fits`, `tree_fits` and box_reach ask too which children an operation has, each to another end.
 #[tactic(auto, using(crate::proofs::RuleLaws::set_laws))]
 pub fn with_children(s: LineSet, l: Line) -> LineSet
     ensures { LineSetOf result (insert_children s.0 (line_in l)) }

@@ -1,16 +1,52 @@
 -- Laws of the places of records: the words of a line, and the sites and lines of a box of the model. Assumes nothing.
 use mathlib.Core.Path.{◌≡◌, sym, ap, ◌∙◌}
-use mathlib.Core.List.{List}
-use Prim.Native.Nat.{ℕ, ◌+◌, ◌*◌, ◌/◌, ◌%◌, ◌≤◌, ◌<◌}
+use mathlib.Core.List.{List, [], ◌∷◌}
+use Prim.Native.Nat.{ℕ, ◌+◌, ◌*◌, ◌/◌, ◌%◌, ◌^◌, ◌≤◌, ◌<◌}
 use native.Mathlib.Omega.{arith}
 use borrow.Author.Rules.{rules}
 use lib.ListN.{length}
+use Rattle.std.specs.Prelude.{slice_index}
+use Rattle.std.specs.Int.{w16, w64, to_le_bytes, from_le_bytes}
 use Rattle.definitions.specs.Words.{word_at, block_of, count_of, data_word}
-use Rattle.definitions.specs.Model.{Box, site_at, line_at, box_at, site_count, line_count}
-use Rattle.definitions.specs.Image.{site_record, model_of}
+use Rattle.definitions.specs.Model.{Box, Line, site_at, line_at, box_at, site_count, line_count}
+use Rattle.definitions.specs.Image.{site_record, line_record, model_of}
 use Rattle.definitions.proofs.Words.{data_word_block}
 use Rattle.definitions.proofs.Image.{line_of, model_box, box_sites, box_site, box_lines, box_line}
 use Rattle.records.specs.Places.{LinesThere, LinesAt, SitesAt, line_record_at}
+
+-- a line by the bytes of its first word w; its children are two bytes each
+module _ (w : ℕ) where
+  first_half : w / 256 ^ 4 % 256 + w / 256 ^ 5 % 256 * 256 ≡ w / 2 ^ 32 % 2 ^ 16
+  first_half = omega arith
+
+  second_half : w / 256 ^ 6 % 256 + w / 256 ^ 7 % 256 * 256 ≡ w / 2 ^ 48 % 2 ^ 16
+  second_half = omega arith
+
+module _ (block : List ℕ) (i w t x y : ℕ) (b : List ℕ) (first : w ≡ data_word block (2 * i)) (second : t ≡ data_word block (2 * i + 1))
+    (bytes : b ≡ to_le_bytes w64 w) (child1 : x ≡ from_le_bytes w16 (slice_index b 4 ∷ slice_index b 5 ∷ []))
+    (child2 : y ≡ from_le_bytes w16 (slice_index b 6 ∷ slice_index b 7 ∷ [])) where
+  pub line_by_bytes : ◌≡◌ {A = Line}
+      (record {
+        op = slice_index b 0;
+        name1 = slice_index b 1;
+        name2 = slice_index b 2;
+        spare = slice_index b 3;
+        child1 = x;
+        child2 = y;
+        type = t;
+      })
+      (line_record block i)
+  line_by_bytes =
+      (λ k. record {
+        op = slice_index (bytes k) 0;
+        name1 = slice_index (bytes k) 1;
+        name2 = slice_index (bytes k) 2;
+        spare = slice_index (bytes k) 3;
+        child1 = (child1 ∙ ap (λ (l : List ℕ). from_le_bytes w16 (slice_index l 4 ∷ slice_index l 5 ∷ [])) bytes ∙ first_half w) k;
+        child2 = (child2 ∙ ap (λ (l : List ℕ). from_le_bytes w16 (slice_index l 6 ∷ slice_index l 7 ∷ [])) bytes ∙ second_half w) k;
+        type = t;
+      })
+      ∙ line_of block i w t first second
 
 -- the two words of line i, at their place in the image
 module _ (image : List ℕ) (k i w : ℕ) where
@@ -48,4 +84,4 @@ module _ (image : List ℕ) (b k n : ℕ) (h : SitesAt image b k n) where
 
 pub ruleset places = (rules, line-there, lines_of_box)
 
-pub ruleset line_words = (rules, line_of, lowest-word, second_word)
+pub ruleset line_words = (rules, lowest-word, second_word)

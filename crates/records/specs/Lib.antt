@@ -1,3 +1,4 @@
 pub mod Records
 pub mod NameSets
 pub mod Places
+pub mod Ops

@@ -31,10 +31,11 @@ pub fn site(block: &[u8; 512], i: usize) -> Site
 {
     let w = blocks::inside::data_word(block, 2 * i);
     let names = blocks::inside::data_word(block, 2 * i + 1);
+    let b = w.to_le_bytes();
     Site {
-        subject: NameNo((w % 256) as u8),
-        flag: (w / 0x100 % 256) as u8,
-        spare: w / 0x1_0000,
+        subject: NameNo(b[0]),
+        flag: b[1],
+        spare: w >> 16,
         names,
     }
 }
@@ -48,13 +49,14 @@ pub fn line(image: &[u8], k: usize, i: usize) -> Line
     let at = 512 * (k + 1) + (8 + 16 * (i + i / 31));
     let w = words::word(image, at);
     let names = words::word(image, at + 8);
+    let b = w.to_le_bytes();
     Line {
-        op: (w % 256) as u8,
-        name1: NameNo((w / 0x100 % 256) as u8),
-        name2: NameNo((w / 0x1_0000 % 256) as u8),
-        spare: (w / 0x100_0000 % 256) as u8,
-        child1: (w / 0x1_0000_0000 % 0x1_0000) as usize,
-        child2: (w / 0x1_0000_0000_0000 % 0x1_0000) as usize,
+        op: b[0],
+        name1: NameNo(b[1]),
+        name2: NameNo(b[2]),
+        spare: b[3],
+        child1: usize::from(u16::from_le_bytes([b[4], b[5]])),
+        child2: usize::from(u16::from_le_bytes([b[6], b[7]])),
         names,
     }
 }

@@ -1,7 +1,9 @@
 #![tactic(auto)]
 // What one record of a model image says: a site, a line, the kind of a name, and the names that a line binds and uses.
+// Bounds of indices and counts stand in the clauses: a type for each bound would be taken apart at every use.
 ghost use Rattle.std.specs.Prelude.{◌≡◌, ◌<◌};
 ghost use Rattle.records.specs.Records.{line_in};
+ghost use Rattle.records.specs.Ops.{OpOf};
 ghost use Rattle.records.specs.Places.{LinesThere, line_record_at};
 
 use sets::NameNo;
@@ -21,6 +23,31 @@ pub enum Op {
     Expose = 6,
     Hide = 7,
     Unhide = 8,
+}
+
+// A number that is no operation's.
+#[derive(Clone, Copy, PartialEq, Eq)]
+pub struct UnknownOp;
+
+impl TryFrom<u8> for Op {
+    type Error = UnknownOp;
+
+    ghost try_from_gives = { OpOf };
+
+    fn try_from(number: u8) -> Result<Op, UnknownOp> {
+        match number {
+            0 => Ok(Op::Nil),
+            1 => Ok(Op::Parallel),
+            2 => Ok(Op::Replication),
+            3 => Ok(Op::Restriction),
+            4 => Ok(Op::Output),
+            5 => Ok(Op::Input),
+            6 => Ok(Op::Expose),
+            7 => Ok(Op::Hide),
+            8 => Ok(Op::Unhide),
+            _ => Err(UnknownOp),
+        }
+    }
 }
 
 // The kinds of names.
@@ -51,7 +78,8 @@ pub struct Site {
     pub names: u64,
 }
 
-// A line's record; names is its type. op is the image's byte, compared with an Op's number: it may be any byte before rule 7 has passed.
+// A line's record; names is its type. A child is a usize, as an index is: a u16 would be narrower for who takes a Line. op is the image's byte,
+// which may be no Op's number before rule 7 has passed.
 #[derive(Clone, Copy)]
 pub struct Line {
     pub op: u8,

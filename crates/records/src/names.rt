@@ -1,4 +1,4 @@
-// Sets of names, put together with no branch: by a test, and what a line binds and uses.
+// Sets of names, put together by a test, in machine code with no branch; what a line binds and uses.
 ghost use Rattle.std.specs.Prelude.{◌≡◌};
 ghost use Rattle.definitions.specs.Sets.{has};
 ghost use Rattle.definitions.specs.Model.{binds};
@@ -9,20 +9,12 @@ ghost use Rattle.records.specs.NameSets.{SetOf, insert_if, set_if, lacks};
 use crate::{Line, Op};
 use sets::NameNo;
 
-// s, with its binary digit n set to 1 where a test is met.
-#[tactic(auto, using(crate::proofs::NameSetLaws::name_sets))]
-fn set_digit_if(s: u64, n: u8, yes: bool) -> u64
-    ensures { SetOf result (insert_if s yes n) }
-{
-    if yes { sets::set_digit(s, n) } else { s }
-}
-
 // s, with name n put in where a test is met.
 #[tactic(auto, using(crate::proofs::NameSetLaws::name_sets))]
 pub fn insert_if(s: u64, n: NameNo, yes: bool) -> u64
     ensures { SetOf result (insert_if s yes n.0) }
 {
-    set_digit_if(s, n.0, yes)
+    if yes { sets::insert(s, n) } else { s }
 }
 
 // s where a test is met, and else no name.

@@ -30,7 +30,7 @@ pub struct Refusal {
     pub second: usize,
 }
 
-// A refusal where a test says so, by its number: that of any enum of refusals.
+// A refusal where a test says so, by its number, which may be any. `Rule::fault_if` calls it with a rule's number.
 pub fn fault_if(bad: bool, number: u8, place: usize, second: usize) -> Result<(), Refusal>
     ensures { answer_in result ≡ some_if bad (refusal number place second) }
 {

@@ -1,10 +1,12 @@
 #![tactic(auto)]
-// The line that the checking program writes for a verdict.
+// The line that the checking program writes for a verdict. A place is a usize, from which u64 has no From.
+// That there is room is a clause of each function, by its own length: a text that might be full would have every caller answer for it.
 ghost use Rattle.std.specs.Prelude.{◌≡◌, ◌≤◌, ◌+◌, ◌++◌, length};
 ghost use Rattle.definitions.specs.Program.{bytes_of, decimal, three_numbers, four_numbers, verdict_line};
 ghost use Rattle.analysis.specs.Answers.{verdict_in};
 
 use analysis::NotAccepted;
+use refusals::Refusal;
 use text::Text;
 
 pub mod text;
@@ -44,6 +46,16 @@ fn push_four(t: &mut Text, a: u64, b: u64, c: u64, d: u64)
     push_three(t, b, c, d);
 }
 
+// A refusal's three numbers, behind what is refused.
+fn push_refusal(t: &mut Text, what: &[u8], r: Refusal)
+    requires { length t.old + length what.now + 63 ≤ 96 }
+    ensures text { t.new ≡ t.old ++ what.now ++ three_numbers r.number r.place r.second }
+    ensures size { length t.new ≤ length t.old + length what.now + 63 }
+{
+    t.push_all(what);
+    push_three(t, u64::from(r.number), r.place as u64, r.second as u64);
+}
+
 #[tactic(auto, unfolding(definitions::specs::Program::verdict_line, definitions::specs::Program::bytes_of))]
 pub fn line(v: Result<(), NotAccepted>) -> Text
     ensures text { result ≡ verdict_line (verdict_in v) }
@@ -56,20 +68,14 @@ pub fn line(v: Result<(), NotAccepted>) -> Text
             t.push_all(b"clause ");
             push_four(
                 &mut t,
-                x.clause as u64,
+                u64::from(x.clause),
                 x.boxno as u64,
                 x.place as u64,
-                x.name.0 as u64,
+                u64::from(x.name.0),
             );
         }
-        Err(NotAccepted::RefusedModel(r)) => {
-            t.push_all(b"refused model ");
-            push_three(&mut t, r.number as u64, r.place as u64, r.second as u64);
-        }
-        Err(NotAccepted::RefusedEstimate(r)) => {
-            t.push_all(b"refused estimate ");
-            push_three(&mut t, r.number as u64, r.place as u64, r.second as u64);
-        }
+        Err(NotAccepted::RefusedModel(r)) => push_refusal(&mut t, b"refused model ", r),
+        Err(NotAccepted::RefusedEstimate(r)) => push_refusal(&mut t, b"refused estimate ", r),
     }
     t
 }

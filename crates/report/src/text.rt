@@ -1,5 +1,5 @@
-// A short text that is put together: bytes and numbers in decimal. No `write!`: the library says what it wrote where it succeeds, and not that it
-// succeeds where there is room, and a line is written for every verdict.
+// A short text that is put together: bytes and numbers in decimal. That there is room is a clause: see the head of lib.rt. No `write!`: the
+// library says what it wrote where it succeeds, and not that it succeeds where there is room, and a line is written for every verdict.
 ghost use Rattle.std.specs.Prelude.{◌≡◌, ◌≤◌, ◌+◌, ◌++◌, ◌∷◌, [], length};
 ghost use Rattle.definitions.specs.Program.{decimal};
 

@@ -1,4 +1,4 @@
--- The tests of a run, a move stored with its answer, and the moves that numbers are. Assumes nothing.
+-- The tests of a run, and the moves that numbers are. Assumes nothing.
 use mathlib.Core.Path.{◌≡◌, refl, sym, ap, ◌∙◌}
 use mathlib.Core.Bool.{not, ◌||◌}
 use mathlib.Core.List.{List, []}
@@ -7,20 +7,18 @@ use Prim.Native.Nat.{ℕ, zero, suc, ◌+◌, ◌*◌, ◌/◌, ◌<◌}
 use native.Mathlib.Omega.{arith}
 use borrow.Author.Rules.{rules}
 use lib.Dec.{eqb}
-use lib.ListN.{length, get_or, set, drop, length-map}
+use lib.ListN.{length, get_or, drop, length-map}
 use Rattle.std.specs.Prelude.{map}
 use Rattle.std.specs.Simd.{first_chunks}
 use Rattle.std.proofs.lemmas.List.{get_or-take, get_or-drop, get_or-map, ext_get_or}
 use Rattle.definitions.specs.Slots.{word}
 use Rattle.state.specs.declared.moves.Move as code
-use Rattle.state.specs.Moves.{move_of, move_in}
+use Rattle.state.specs.Moves.{five_in, move_of, move_in}
 use Rattle.definitions.specs.Bounded.{◌or◌, ◌isnt◌}
 use Rattle.definitions.specs.Answer.{Refusal}
-use Rattle.definitions.specs.Image.{model_of}
-use Rattle.definitions.specs.Moves.{Move, act}
-use Rattle.definitions.specs.Calls.{moves_refusal, outcome_number, outcome_words}
+use Rattle.definitions.specs.Calls.{moves_refusal}
 use Rattle.definitions.proofs.Bounded.{or_is, length-tabulate, get_d_tabulate}
-use Rattle.runs.specs.Moves.{move_at, moves_of, moves_in, five_in}
+use Rattle.runs.specs.Moves.{move_at, moves_of, moves_in}
 use Rattle.runs.proofs.Fold.{no_move}
 
 -- the tests before a first move, as the code writes them
@@ -29,16 +27,6 @@ pub tests : (image words : List ℕ) (moves answers : ℕ) (o : Option Refusal)
     → o ≡ moves_refusal image words (length words isnt 9112 or answers isnt moves)
 unfolding ◌isnt◌
 tests image words moves answers o e = e ∙ ap (moves_refusal image words) (or_is (not (eqb (length words) 9112)) (not (eqb answers moves)))
-
--- a move as it is made, t, and as it is listed, v: what it leaves, and its answer stored
-module _ (image st : List ℕ) (t v : Move) (e : t ≡ v) where
-  pub made_words : (w : List ℕ) → w ≡ outcome_words st (act (model_of image) st t) → w ≡ outcome_words st (act (model_of image) st v)
-  made_words w d = d ∙ ap (λ (m : Move). outcome_words st (act (model_of image) st m)) e
-
-  pub stored : (xs : List ℕ) (i n : ℕ) → n ≡ outcome_number (act (model_of image) st t) → set xs i n ≡ set xs i (outcome_number (act (model_of image) st v))
-  stored xs i n d = ap (set xs i) (d ∙ ap (λ (m : Move). outcome_number (act (model_of image) st m)) e)
-
-pub ruleset stores = (rules, made_words, stored)
 
 -- ---- the moves that numbers are
 

@@ -1,10 +1,10 @@
 -- The moves of a lent list, and those of a list of numbers. Assumes nothing.
-use Rattle.std.specs.Prelude.{List, get_or, map, ℕ, ◌+◌, ◌*◌, ◌/◌, length}
+use Rattle.std.specs.Prelude.{List, map, ℕ, ◌+◌, ◌*◌, ◌/◌, length}
 use Rattle.definitions.specs.Bounded.{tabulate}
 use Rattle.definitions.specs.Slots.{word}
 use Rattle.definitions.specs.Moves as moves
 use Rattle.state.specs.declared.moves.Move.{Move}
-use Rattle.state.specs.Moves.{move_of, move_in}
+use Rattle.state.specs.Moves.{move_in}
 
 -- the moves of a lent list
 abbrev pub moves_in : List Move → List moves.Move
@@ -22,7 +22,3 @@ move_at numbers i = record {
 
 unfoldable pub moves_of : List ℕ → List Move
 moves_of numbers = tabulate (length numbers / 5) (move_at numbers)
-
--- a move by a list of its five numbers
-abbrev pub five_in : List ℕ → moves.Move
-five_in a = move_of (get_or a 0 0) (get_or a 1 0) (get_or a 2 0) (get_or a 3 0) (get_or a 4 0)

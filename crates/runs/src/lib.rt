@@ -1,16 +1,14 @@
 #![tactic(auto)]
 // A run over a lent list of moves: model and state are tested once, then each move is made in turn, refused ones passed over.
-// Bounds of indices and counts stand in the clauses: a type for each bound would be taken apart at every use.
-ghost use Rattle.std.specs.Prelude.{◌≡◌, ◌<◌, map, length, set, IfOk};
+ghost use Rattle.std.specs.Prelude.{◌≡◌, map, length, IfOk};
 ghost use Rattle.definitions.specs.Bounded.{◌or◌, ◌isnt◌};
-ghost use Rattle.definitions.specs.Image.{model_of};
 ghost use Rattle.definitions.specs.Record.{state_length};
 ghost use Rattle.definitions.specs.Moves as moves;
 ghost use Rattle.definitions.specs.Calls as calls;
 ghost use Rattle.refusals.specs.Answers.{answer_in};
 ghost use Rattle.lookups.specs.Ready.{Ready};
-ghost use Rattle.state.specs.Moves.{move_in};
-ghost use Rattle.runs.specs.Moves.{moves_in, moves_of, five_in};
+ghost use Rattle.state.specs.Moves.{five_in, move_in};
+ghost use Rattle.runs.specs.Moves.{moves_in, moves_of};
 
 use deciding::number;
 use model::ReadModel;
@@ -34,19 +32,8 @@ fn begin<'a>(
     reduction::refusal(model, state, wrong)
 }
 
-// A move, and its answer stored at place i. The state is lent for writing, so that it obeys the rules is a clause.
-#[tactic(auto, using(crate::proofs::RunLaws::stores))]
-fn turn_at(model: &ReadModel<'_>, state: &mut [u32], answers: &mut [u8], i: usize, m: Move)
-    requires ready { Ready model.now state.old }
-    requires room { i < length answers.old }
-    ensures words { state.new ≡ calls.outcome_words state.old (moves.act (model_of model.now.image.now) state.old (move_in m)) }
-    ensures answer { answers.new ≡ set answers.old i (calls.outcome_number (moves.act (model_of model.now.image.now) state.old (move_in m))) }
-    ensures keeps { Ready model.now state.new }
-{
-    answers[i] = number(turns::turn(model, state, Turn::from(m)));
-}
-
-// What a move is read from: the move itself, or its five numbers.
+// What a move is read from: the move itself, or its five numbers. The library's Into says which results are right, and no list of moves
+// that a contract could name.
 trait Listed {
     ghost as_move: { Self → moves.Move };
 
@@ -66,13 +53,7 @@ impl Listed for [u32; 5] {
     ghost as_move = { five_in };
 
     fn get(&self) -> Move {
-        Move {
-            kind: self[0],
-            boxno: self[1],
-            thread: self[2],
-            boxno2: self[3],
-            thread2: self[4],
-        }
+        Move::from(*self)
     }
 }
 
@@ -89,8 +70,9 @@ fn run_each<T: Listed>(
     ensures answers { answers.new ≡ (calls.run model.now state.old (map T.as_move moves.now) answers.old).answers }
 {
     let read = begin(model, state, moves.len(), answers.len())?;
+    // By an index: of a list that is written under `zip` the library does not say what it holds after.
     for (i, m) in moves.iter().enumerate() {
-        turn_at(&read, state, answers, i, m.get());
+        answers[i] = number(turns::turn(&read, state, Turn::from(m.get())));
     }
     Ok(())
 }

@@ -1,3 +1,4 @@
 pub mod Walk
 pub mod Members
 pub mod Each
+pub mod Ranges

@@ -1,6 +1,5 @@
 #![tactic(auto)]
 // Sets of names: a u64 has name n where its binary digit n is 1. No call but `union_of` asks anything of its arguments.
-// A digit is read and set by its number, and a name by its NameNo: a wrapper over each is shorter than one function for both.
 ghost use Rattle.std.specs.Prelude.{◌≡◌, ℕ, ◌<◌, MatchOption};
 ghost use Rattle.definitions.specs.Bounded.{◌and◌, ◌or◌, ◌is◌};
 ghost use Rattle.definitions.specs.Sets as names;
@@ -11,25 +10,11 @@ ghost use Rattle.sets.specs.Lowest.{lowest_of, WithoutLowest};
 #[derive(Clone, Copy, Debug, PartialEq, Eq)]
 pub struct NameNo(pub u8);
 
-// Binary digit n of s is 1: never where n is above 63.
-pub fn has_digit(s: u64, n: u8) -> bool
-    ensures { result ≡ names.has s n }
-{
-    if n < 64 { (s >> n) & 1 == 1 } else { false }
-}
-
-// s with its binary digit n set to 1: s itself where n is above 63.
-pub fn set_digit(s: u64, n: u8) -> u64
-    ensures { (m : ℕ) → m < 64 → names.has result m ≡ (names.has s m or n is m) }
-{
-    if n < 64 { s | (1 << n) } else { s }
-}
-
 // Name n is in s: never where n is above 63.
 pub fn contains(s: u64, n: NameNo) -> bool
     ensures { result ≡ names.has s n.0 }
 {
-    has_digit(s, n.0)
+    if n.0 < 64 { (s >> n.0) & 1 == 1 } else { false }
 }
 
 // Every member of a is in b.
@@ -46,7 +31,7 @@ pub fn intersects(a: u64, b: u64) -> bool
     a & b != 0
 }
 
-// The lowest member of s.
+// The lowest member of s. A digit's number is a u32, from which u8 has no From.
 pub fn lowest(s: u64) -> Option<NameNo>
     ensures { MatchOption result (s ≡ 0) (λ n. (0 < s) × (n.0 ≡ lowest_of s)) }
 {
@@ -68,7 +53,7 @@ pub fn without_lowest(s: u64) -> u64
 pub fn insert(s: u64, n: NameNo) -> u64
     ensures { (m : ℕ) → m < 64 → names.has result m ≡ (names.has s m or n.0 is m) }
 {
-    set_digit(s, n.0)
+    if n.0 < 64 { s | (1 << n.0) } else { s }
 }
 
 // The members of a and those of b.

@@ -1,15 +1,17 @@
 -- Each of several sets is within a set exactly when their union is: what clause 6 asks is gathered so. Assumes nothing.
 use mathlib.Core.Path.{◌≡◌, refl, sym, ap, ◌∙◌}
 use mathlib.Core.Bool.{Bool, true, false}
-use mathlib.Core.List.{List}
+use mathlib.Core.List.{List, ◌++◌}
 use mathlib.Core.Logic.{inl, inr, ⊎_elim}
 use mathlib.Core.Option.{none}
 use Prim.Native.Nat.{ℕ, ◌+◌, ◌^◌, ◌≤◌, ◌<◌}
 use native.Mathlib.Nat.{le_antisymm}
 use native.Mathlib.Numerals.{add-one}
+use native.Mathlib.Omega.{arith}
 use borrow.Author.Rules.{rules}
 use lib.Dec.{T}
-use lib.ListN.{get_or}
+use lib.ListN.{length, get_or, take, drop, length-take, length-drop, length-append}
+use lib.Seq.{get_or-take}
 use Rattle.definitions.specs.Bounded.{◌and◌, ◌or◌, ◌implies◌, ◌isnt◌, all_below}
 use Rattle.definitions.specs.Sets.{has, for_each, for_some, within, meets}
 use Rattle.definitions.specs.Model.{Line}
@@ -18,6 +20,7 @@ use Rattle.definitions.specs.Clauses.{clause4, clause5, clause6}
 use Rattle.definitions.proofs.Bounded.{and_iff, or_iff, all_iff, implies_iff, isnt_iff, true_of, of_true, false_of, not-false, same_test}
 use Rattle.definitions.proofs.Sets.{and-true, and_assoc, has-none, for_each_iff, for_some_iff, within_iff, within_trans, meets_iff, meets_comm}
 use Rattle.definitions.proofs.Clauses.{sets, clause4_iff, clause5_iff, clause6_iff}
+use Rattle.estimate.specs.Known.{EstimateOfNames}
 use Rattle.sets.specs.declared.NameNo.{NameNo}
 use Rattle.sets.specs.Ascending.{LowestOf}
 use Rattle.sets.specs.Each.{UnionOfEach}
@@ -202,30 +205,43 @@ pub sets_as : (image : List ℕ) (k s : ℕ) (x : BoxSets) → Least x.sends (al
     → s ≡ (estimate_of image).shown k → SetsOf image k x
 sets_as image k s x a b es = record { sends = rw es at a; types = rw es at b }
 
-module _ (image : List ℕ) (boxes k : ℕ) (t : List BoxSets) (f : Rows no_sets (SetsOf image) k t) (h : boxes ≤ k) where
-  pub sends_end : Sends image boxes t
-  sends_end = record { size = f.size; each = λ i l. (rows_end no_sets (SetsOf image) boxes k t f h i l).sends }
+-- the sets of the boxes, and what was in the table before behind them
+module _ (image : List ℕ) (boxes k : ℕ) (t u : List BoxSets) (f : Rows no_sets (SetsOf image) boxes k t) (few : EstimateOfNames image boxes)
+    (h : boxes ≤ k) (l : length u ≡ 8) where
+  size : length (t ++ drop boxes u) ≡ 8
+  size = omega (arith, length-append t (drop boxes u), length-drop boxes u, f.size, few.most)
 
-  pub types_end : TypeTable (estimate_of image) boxes t
-  types_end = record { size = f.size; each = λ i l. (rows_end no_sets (SetsOf image) boxes k t f h i l).types }
+  pub sends_end : Sends image boxes (t ++ drop boxes u)
+  sends_end = record { size = size; each = λ i m. (rows_end no_sets (SetsOf image) boxes k t (drop boxes u) f h i m).sends }
 
--- ---- all that other boxes may send
+  pub types_end : TypeTable (estimate_of image) boxes (t ++ drop boxes u)
+  types_end = record { size = size; each = λ i m. (rows_end no_sets (SetsOf image) boxes k t (drop boxes u) f h i m).types }
 
-pub sent_in_other : (image : List ℕ) (boxes b k w v : ℕ) (u : BoxSets) (t : List BoxSets) → (k ≡ b → ⊥) → Sends image boxes t → k < boxes
-    → u ≡ get_or t k no_sets → UnionOf v w u.sends → Joined v w (sent_by_other (estimate_of image) b k)
+-- ---- all that other boxes may send: a walk over the sets of the boxes
+
+taken_below : (boxes k : ℕ) (t : List BoxSets) → k < length (take boxes t) → k < boxes
+taken_below boxes k t h = omega (arith, length-take boxes t)
+
+pub sent_in_other : (image : List ℕ) (boxes b k w v : ℕ) (u : BoxSets) (t : List BoxSets) → (k ≡ b → ⊥) → Sends image boxes t
+    → k < length (take boxes t) → u ≡ get_or (take boxes t) k no_sets → UnionOf v w u.sends → Joined v w (sent_by_other (estimate_of image) b k)
 unfolding sent_by_other
 sent_in_other image boxes b k w v u t f d h eu j =
     let e = estimate_of image in
+    let l = taken_below boxes k t h in
+    let s = sends_at image boxes t k (e.shown k) u d l refl (eu ∙ get_or-take boxes t k no_sets l) in
     joined_if (k isnt b) (all_sent_in e k (e.shown k)) v w (isnt_yes k b f)
-    (record { same = λ q. within_union v w u.sends j q ∙ ap (λ (z : Bool). within w q and z) ((sends_at image boxes t k (e.shown k) u d h refl eu).same q) })
+    (record { same = λ q. within_union v w u.sends j q ∙ ap (λ (z : Bool). within w q and z) (s.same q) })
 
 pub sent_out_own : (e : Estimate) (b k w : ℕ) → k ≡ b → Joined w w (sent_by_other e b k)
 unfolding sent_by_other
 sent_out_own e b k w f = joined-not (k isnt b) (all_sent_in e k (e.shown k)) w (isnt_no k b f)
 
-pub others_end : (e : Estimate) (boxes b k w : ℕ) → Through (sent_by_other e b) k w → k ≤ boxes → boxes ≤ k → Least w (sent_by_others e boxes b)
+pub others_end : (image : List ℕ) (boxes b k w : ℕ) (t : List BoxSets) → EstimateOfNames image boxes → Sends image boxes t
+    → Through (sent_by_other (estimate_of image) b) k w → k ≤ length (take boxes t) → length (take boxes t) ≤ k
+    → Least w (sent_by_others (estimate_of image) boxes b)
 unfolding sent_by_others
-others_end e boxes b = through_all (sent_by_other e b) boxes
+others_end image boxes b k w t few d g l h =
+    through_all (sent_by_other (estimate_of image) b) boxes k w g (omega (arith, length-take boxes t)) (omega (arith, length-take boxes t, d.size, few.most))
 
 -- where all that other boxes may send is in q, so is what a name asks
 pub others_suffice : (e : Estimate) (boxes b w q a : ℕ) → Least w (sent_by_others e boxes b) → T (within w q) → T (shared_at e boxes b a q)

@@ -4,7 +4,7 @@
 // image asks of the estimate only the blocks that it reads.
 // A set of names is a word, since words are joined with & and |; that it has no digit past the names is a clause.
 // Bounds of indices and counts stand in the clauses: a type for each bound would be taken apart at every use.
-ghost use Rattle.std.specs.Prelude.{◌≡◌, ◌+◌, ◌*◌, ◌<◌, ◌≤◌, length, get_or};
+ghost use Rattle.std.specs.Prelude.{◌≡◌, ◌+◌, ◌*◌, ◌<◌, ◌≤◌, length};
 ghost use Rattle.definitions.specs.Estimate.{estimate_of};
 ghost use Rattle.sets.specs.Names.{NamesOnly};
 ghost use Rattle.sharing.specs.Shared.{Least, Joined, all_sent_in, sent_by_others, all_shared_in, shared_by_others, shared_on, may_send, Most, SetsOf, Sends, TypeTable, GatheredOf, NothingGathered};
@@ -59,7 +59,7 @@ fn sent_most(estimate: &[u8], b: usize, s: u64) -> u64
 }
 
 // What clauses 4, 5 and 6 ask of the lines of a box, for the sets that they were last gathered for: most, for outputs on a channel whose
-// rho(p) is out; all, for inputs where it is on; asks, for inputs whose types are.
+// rho(p) is `out`; all, for inputs where it is `on`; asks, for inputs whose types have the union `types`.
 // That it is gathered for box b of an estimate is a clause: a ghost field for it would carry both along.
 #[derive(Clone, Copy)]
 pub struct Gathered {
@@ -88,7 +88,7 @@ pub fn nothing() -> Gathered
 
 // The three calls by clause fill two fields each, of their own: one call for them would take the fields and the set that fills them.
 
-// Clause 4, for outputs on a channel whose rho(p) is s; boxes stands in the contract alone.
+// Clause 4, for outputs on a channel whose rho(p) is s; boxes stands in the contract alone: an Estimate would ask for all of its blocks.
 #[tactic(auto, using(crate::proofs::Gather::gathered))]
 pub fn for_outputs(estimate: &[u8], boxes: usize, b: usize, s: u64, g: Gathered) -> Gathered
     requires there { 512 * (3 + 2 * b) ≤ length estimate.now }
@@ -107,7 +107,7 @@ pub fn for_outputs(estimate: &[u8], boxes: usize, b: usize, s: u64, g: Gathered)
     }
 }
 
-// Clause 5, for inputs on a channel whose rho(p) is s; boxes stands in the contract alone.
+// Clause 5, for inputs on a channel whose rho(p) is s; boxes as for clause 4.
 #[tactic(auto, using(crate::proofs::Gather::gathered))]
 pub fn for_inputs(estimate: &[u8], boxes: usize, b: usize, s: u64, g: Gathered) -> Gathered
     requires there { 512 * (3 + 2 * b) ≤ length estimate.now }
@@ -154,9 +154,9 @@ pub fn sent_by_others(e: Estimate<'_>, each: &[BoxSets; 8], b: usize) -> u64
     ensures { Least result (sent_by_others (estimate_of e.entry.image.now) e.entry.boxes b) }
 {
     let mut w: u64 = 0;
-    for k in 0..e.boxes {
+    for (k, x) in each[..e.boxes].iter().enumerate() {
         if k != b {
-            w = sets::union(w, each[k].sends);
+            w = sets::union(w, x.sends);
         }
     }
     w
@@ -180,8 +180,8 @@ impl<'a> Tables<'a> {
         ensures boxes { result.estimate.boxes ≡ e.entry.boxes }
     {
         let mut each = [BoxSets { sends: 0, types: 0 }; 8];
-        for k in 0..e.boxes {
-            each[k] = box_sets(e, k);
+        for (k, x) in each[..e.boxes].iter_mut().enumerate() {
+            *x = box_sets(e, k);
         }
         Tables { estimate: e, each }
     }
@@ -201,7 +201,7 @@ impl<'a> Tables<'a> {
     }
 
     // What clause 6 asks at names of box b whose types have the union x. As sent_by_others, but each box joins to what is gathered, so that it
-    // may stop.
+    // may stop. A range: join_shown takes box k by its number.
     #[tactic(auto, using(crate::proofs::Gather::gathers))]
     fn shared_with(&self, b: usize, x: u64) -> u64
         requires { b < self.now.estimate.boxes }

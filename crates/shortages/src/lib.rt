@@ -2,12 +2,11 @@
 // Clauses 4 and 5 at a line: one test by what was gathered for its channel; where that says no, the name that is missing, by a walk in the
 // paper's order: names of the channel ascending. Both ask of the estimate the blocks of box b. 4 asks one set within each,
 // 5 each within one: two clauses of the paper, for which one function would take the test and the call.
-ghost use Rattle.std.specs.Prelude.{◌≡◌, ◌+◌, ◌*◌, ◌≤◌, length};
+ghost use Rattle.std.specs.Prelude.{◌≡◌};
 ghost use Rattle.definitions.specs.Sets as names;
 ghost use Rattle.definitions.specs.Estimate.{estimate_of};
 ghost use Rattle.definitions.specs.Clauses as clauses;
 ghost use Rattle.records.specs.Records.{line_in};
-ghost use Rattle.sets.specs.Names.{NamesOnly};
 ghost use Rattle.subsets.specs.Within.{within_in};
 ghost use Rattle.estimate.specs.Known.{BoxOfNames};
 ghost use Rattle.clauses.specs.Known.{MetWhere};

@@ -1,5 +1,6 @@
 #![tactic(auto)]
 // Starting a model: every word of the lent state is written, or a refusal given and nothing written.
+// A count becomes a word by `as`: u32 has no From<usize>.
 // Bounds of indices and counts stand in the clauses: a type for each bound would be taken apart at every use.
 ghost use Rattle.std.specs.Prelude.{◌≡◌, ◌<◌, length};
 ghost use Rattle.definitions.specs.Limits.{type_limit};
@@ -18,7 +19,8 @@ use records::Site;
 use refusals::{Refusal, Rule};
 use sets::Ascending;
 
-// The names of a type, lowest first, each with stamp 0, into eight words that are zero.
+// The names of a type, lowest first, each with stamp 0, into eight words that are zero. By index: of words written in
+// `words.iter_mut().zip(..)` the library says nothing at the goal `returns`.
 #[tactic(auto, using(crate::proofs::StartLaws::names))]
 fn write_names(words: &mut [u32], names: u64)
     requires clear { words.old ≡ zeros type_limit }
@@ -42,7 +44,8 @@ fn write_site(words: &mut [u32], s: Site)
     write_names(&mut words[2..10], s.names);
 }
 
-// The record of box b, into words that are zero: one thread, which stands at line 0, and the sites.
+// The record of box b, into words that are zero: one thread, which stands at line 0, and the sites. Sites are lent by index, since the
+// library says nothing of what a list ends as that was lent by `as_chunks_mut` or `chunks_exact_mut`.
 #[tactic(auto, using(crate::proofs::StartLaws::records))]
 fn start_record(m: &ReadModel<'_>, b: usize, r: &mut [u32; 1139])
     requires there { b < m.now.layout.boxes }
@@ -63,7 +66,7 @@ fn start_record(m: &ReadModel<'_>, b: usize, r: &mut [u32; 1139])
 
 // The state is a slice, as C lends it; its length is a clause.
 
-// The whole state: the record of each box of the model, and zeros for each box that the model lacks.
+// The whole state: the record of each box of the model, and zeros for each box that the model lacks. Records are lent by index too.
 #[tactic(auto, using(crate::proofs::StartLaws::states))]
 fn write(m: &ReadModel<'_>, state: &mut [u32])
     requires long { length state.old ≡ state_length }

@@ -3,20 +3,22 @@ use mathlib.Core.Path.{◌≡◌, refl, ap, sym, ◌∙◌}
 use mathlib.Core.Logic.{◌≢◌}
 use mathlib.Core.Bool.{Bool, true, false}
 use mathlib.Core.List.{List, [], ◌∷◌, ◌++◌, append_assoc}
-use Prim.Native.Nat.{ℕ, zero, suc, ◌+◌, ◌≤◌, ◌<◌, min, max}
+use Prim.Native.Nat.{ℕ, zero, suc, ◌+◌, ◌-◌, ◌≤◌, ◌<◌, min, max, zero-le}
 use native.Mathlib.Numerals.{add-one}
 use native.Mathlib.Omega.{arith}
 use native.Mathlib.Decide.{dec_lt}
 use borrow.Author.Rules.{rules}
-use lib.ListN.{length, take, drop, set, length-append, length-drop, length-set}
+use lib.ListN.{length, take, drop, set, length-append, length-take, length-drop}
 use lib.Seq.{drop-cons, drop-length, set_at, get_or_at}
+use Rattle.std.proofs.lemmas.List.{set-get_or}
 use Rattle.definitions.specs.Bounded.{◌is◌, ◌below◌}
 use Rattle.definitions.specs.Slots.{word, zeros, part, put}
 use Rattle.definitions.specs.Start.{insert}
 use Rattle.definitions.proofs.Bounded.{is_iff, below_iff, true_of, false_of}
 use Rattle.definitions.proofs.TypeWords.{All, Ascends, Place, before, there, behind, place, insert-first}
-use Rattle.definitions.proofs.Slots.{take-zeros, length_part, word-put_in, put-part, set-put}
+use Rattle.definitions.proofs.Slots.{take-zeros}
 use Rattle.state.specs.Edits.{inserted}
+use Rattle.state.proofs.Parts.{back-part}
 
 -- the three ways on at a word y
 module _ (x y : ℕ) (ys : List ℕ) where
@@ -53,109 +55,87 @@ module _ (x y : ℕ) (ys : List ℕ) where
           ap above (false_of (x below y) (λ t. h ((below_iff x y).0 t))) ∙ sym (ap (λ (q : ℕ). q ∷ inserted (max x y) ys) a ∙ ap (λ (q : ℕ). y ∷ inserted q ys) b)
 
 -- before place j: the front words are those of the outcome, the others are as they were, and x is still to be put in
-pub record Inserting (old : List ℕ) (at v j x : ℕ) (new : List ℕ) : Type 0 where
-  pub room : at + 8 ≤ length old
-  pub same : length new ≡ length old
-  pub high : j ≤ 8
+pub record Inserting (old : List ℕ) (v j x : ℕ) (new : List ℕ) : Type 0 where
+  pub high : j ≤ length old
   pub front : List ℕ
   pub long : length front ≡ j
-  pub words : new ≡ put old at (front ++ drop j (part old at 8))
-  pub gives : front ++ inserted x (drop j (part old at 8)) ≡ inserted v (part old at 8)
+  pub words : new ≡ front ++ drop j old
+  pub gives : front ++ inserted x (drop j old) ≡ inserted v old
 
-module _ {old : List ℕ} {at v j x : ℕ} {new : List ℕ} (k : Inserting old at v j x new) (h : j < 8) where
-  w : List ℕ
-  w = part old at 8
-
-  size : length w ≡ 8
-  unfolding w
-  size = length_part old at 8 k.room
-
+module _ {old : List ℕ} {v j x : ℕ} {new : List ℕ} (k : Inserting old v j x new) (h : j < length old) where
   y : ℕ
-  y = word w j
+  y = word old j
 
   ys : List ℕ
-  ys = drop (suc j) w
+  ys = drop (suc j) old
 
-  rest : drop j w ≡ y ∷ ys
+  rest : drop j old ≡ y ∷ ys
   unfolding y ys
-  rest = drop-cons w j 0 (omega (arith, size))
+  rest = drop-cons old j 0 h
 
-  all : k.front ++ drop j w ≡ k.front ++ y ∷ ys
-  all = ap (λ (l : List ℕ). k.front ++ l) rest
+  all : new ≡ k.front ++ y ∷ ys
+  all = k.words ∙ ap (λ (l : List ℕ). k.front ++ l) rest
 
-  total : length (k.front ++ drop j w) ≡ 8
-  total = simp (length-append, length-drop) (omega (arith, size, k.long))
+  here : word new j ≡ y
+  here = ap (λ (l : List ℕ). word l j) all ∙ get_or_at k.front y ys 0 j k.long
 
-  inside : at + length (k.front ++ drop j w) ≤ length old
-  inside = omega (arith, total, k.room)
+  stored : (z : ℕ) → set new j z ≡ k.front ++ z ∷ ys
+  stored z = ap (λ (l : List ℕ). set l j z) all ∙ set_at k.front y ys z j k.long
 
-  here : word new (at + j) ≡ y
-  unfolding w
-  here =
-      ap (λ (l : List ℕ). word l (at + j)) k.words ∙ word-put_in old at (k.front ++ drop j w) inside j (omega (arith, total))
-      ∙ ap (λ (l : List ℕ). word l j) all ∙ get_or_at k.front y ys 0 j k.long
-
-  stored : (z : ℕ) → set new (at + j) z ≡ put old at (k.front ++ z ∷ ys)
-  unfolding w
-  stored z =
-      ap (λ (l : List ℕ). set l (at + j) z) k.words ∙ set-put old at (k.front ++ drop j w) j z inside (omega (arith, total))
-      ∙ ap (λ (l : List ℕ). put old at (set l j z)) all ∙ ap (put old at) (set_at k.front y ys z j k.long)
-
-  gives : k.front ++ inserted x (y ∷ ys) ≡ inserted v w
-  unfolding w
+  gives : k.front ++ inserted x (y ∷ ys) ≡ inserted v old
   gives = ap (λ (l : List ℕ). k.front ++ inserted x l) (sym rest) ∙ k.gives
 
-  pub insert-same : word new (at + j) ≡ x → new ≡ put old at (inserted v (part old at 8))
-  unfolding w
-  insert-same e = k.words ∙ ap (put old at) (all ∙ ap (λ (l : List ℕ). k.front ++ l) (sym (inserted_same x y ys (sym here ∙ e))) ∙ gives)
+  pub insert-same : word new j ≡ x → set new j (word new j) ≡ inserted v old
+  insert-same e = set-get_or new j 0 ∙ all ∙ ap (λ (l : List ℕ). k.front ++ l) (sym (inserted_same x y ys (sym here ∙ e))) ∙ gives
 
-  pub insert-last : word new (at + j) ≢ x → word new (at + j) ≡ 0 → set new (at + j) x ≡ put old at (inserted v (part old at 8))
-  unfolding w
-  insert-last n e =
-      stored x ∙ ap (put old at) (ap (λ (l : List ℕ). k.front ++ l) (sym (inserted-last x y ys (λ q. n (here ∙ q)) (sym here ∙ e))) ∙ gives)
+  pub insert-last : word new j ≢ x → word new j ≡ 0 → set new j x ≡ inserted v old
+  insert-last n e = stored x ∙ ap (λ (l : List ℕ). k.front ++ l) (sym (inserted-last x y ys (λ q. n (here ∙ q)) (sym here ∙ e))) ∙ gives
 
-  pub insert_on : word new (at + j) ≢ x → word new (at + j) ≢ 0 → (low high : ℕ) → low ≡ min x (word new (at + j)) → high ≡ max x (word new (at + j))
-      → Inserting old at v (j + 1) high (set new (at + j) low)
-  unfolding w ys
+  pub insert_on : word new j ≢ x → word new j ≢ 0 → (low high : ℕ) → low ≡ min x (word new j) → high ≡ max x (word new j)
+      → Inserting old v (j + 1) high (set new j low)
+  unfolding ys
   insert_on n z low high el eh =
-      let next : drop (j + 1) w ≡ ys = ap (λ (i : ℕ). drop i w) (add-one j) in
+      let next : drop (j + 1) old ≡ ys = ap (λ (i : ℕ). drop i old) (add-one j) in
       let lowest : low ≡ min x y = el ∙ ap (min x) here in
       let highest : high ≡ max x y = eh ∙ ap (max x) here in
       let outcome = inserted_on x y ys (λ q. n (here ∙ q)) (λ q. z (here ∙ q)) in
       record {
-        room = k.room;
-        same = length-set new (at + j) low ∙ k.same;
         high = omega arith;
         front = k.front ++ (low ∷ []);
         long = length-append k.front (low ∷ []) ∙ omega (arith, k.long);
-        words = stored low ∙ ap (put old at) (sym (append_assoc k.front (low ∷ []) (drop (j + 1) w) ∙ ap (λ (l : List ℕ). k.front ++ low ∷ l) next));
+        words = stored low ∙ sym (append_assoc k.front (low ∷ []) (drop (j + 1) old) ∙ ap (λ (l : List ℕ). k.front ++ low ∷ l) next);
         gives =
-            append_assoc k.front (low ∷ []) (inserted high (drop (j + 1) w))
+            append_assoc k.front (low ∷ []) (inserted high (drop (j + 1) old))
             ∙ ap (λ (l : List ℕ). k.front ++ low ∷ inserted high l) next
             ∙ ap (λ (l : List ℕ). k.front ++ l) (ap (λ (q : ℕ). q ∷ inserted high ys) lowest ∙ ap (λ (q : ℕ). min x y ∷ inserted q ys) highest ∙ sym outcome)
             ∙ gives;
       }
 
-pub insert-start : (old : List ℕ) (at v : ℕ) → length old ≡ 1139 → at + 8 ≤ 1139 → Inserting old at v 0 v old
-insert-start old at v size room = record {
-  room = omega arith;
-  same = refl;
-  high = omega arith;
+pub insert-start : (old : List ℕ) (v : ℕ) → Inserting old v 0 v old
+insert-start old v = record {
+  high = zero-le;
   front = [];
   long = refl;
-  words = sym (put-part old at 8 (omega arith));
+  words = refl;
   gives = refl;
 }
 
-pub insert_end : {old : List ℕ} {at v j x : ℕ} {new : List ℕ} → Inserting old at v j x new → 8 ≤ j → new ≡ put old at (inserted v (part old at 8))
+pub insert_end : {old : List ℕ} {v j x : ℕ} {new : List ℕ} → Inserting old v j x new → length old ≤ j → new ≡ inserted v old
 unfolding inserted
-insert_end {old} {at} {v} {j} {x} {new} k h =
-    k.words ∙ ap (put old at) (ap (λ (l : List ℕ). k.front ++ l) (none ∙ sym (ap (inserted x) none)) ∙ k.gives)
+insert_end {old} {v} {j} {x} {new} k h =
+    k.words ∙ ap (λ (l : List ℕ). k.front ++ l) (none ∙ sym (ap (inserted x) none)) ∙ k.gives
   where
-    none : drop j (part old at 8) ≡ []
-    none =
-        let size = length_part old at 8 k.room in
-        ap (λ (i : ℕ). drop i (part old at 8)) (let e : j ≡ length (part old at 8) = omega (arith, k.high) in e) ∙ drop-length (part old at 8)
+    none : drop j old ≡ []
+    none = ap (λ (i : ℕ). drop i old) (let e : j ≡ length old = omega (arith, k.high) in e) ∙ drop-length old
+
+-- the eight words from place `at` on, lent as a part of the record, are back with v put in
+pub insert_back : (r x : List ℕ) (at v : ℕ) → at + 8 ≤ length r → length x ≡ length (take (at + 8 - at) (drop at r)) → x ≡ inserted v (take (at + 8 - at) (drop at r))
+    → take at r ++ (x ++ drop (at + 8 - at) (drop at r)) ≡ put r at (inserted v (part r at 8))
+unfolding part
+insert_back r x at v room size e =
+    let wide : at + 8 - at ≡ 8 = omega arith in
+    let long : length (take (at + 8 - at) (drop at r)) ≡ at + 8 - at = simp (length-take, length-drop) (omega arith) in
+    back-part r x at (at + 8) (omega arith) (size ∙ long) ∙ ap (put r at) (e ∙ ap (λ (n : ℕ). inserted v (take n (drop at r))) wide)
 
 -- ---- words of a type with a held name put in are the words of the list with it inserted
 
@@ -189,4 +169,4 @@ inserted_padded v h (y ∷ ys) a b (suc c) k m = go (place v y ys) (inserted_pad
         ∙ ap (λ (n : ℕ). n ∷ inserted (max v y) rest) low ∙ ap (λ (n : ℕ). y ∷ inserted n rest) high
         ∙ ap (λ (x : List ℕ). y ∷ x) f ∙ ap (λ (x : List ℕ). take (suc c) (x ++ zeros k)) (sym e)
 
-pub ruleset inserts = (rules, insert-start, insert-same, insert-last, insert_on, insert_end)
+pub ruleset inserts = (rules, insert-start, insert-same, insert-last, insert_on, insert_end, insert_back)

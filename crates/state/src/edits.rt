@@ -1,5 +1,5 @@
 #![tactic(auto, using(crate::proofs::Stores::stores))]
-// Edits of a box record, each an edit of the definitions.
+// Edits of a box record, each an edit of the definitions. A count becomes a word by `as`: u32 has no From<usize>.
 // Bounds of indices and counts stand in the clauses: a type for each bound would be taken apart at every use.
 ghost use Rattle.std.specs.Prelude.{◌≡◌, ◌+◌, ◌<◌, ◌≤◌};
 ghost use Rattle.definitions.specs.Limits.{name_limit, slot_limit};
@@ -33,7 +33,7 @@ pub fn bind(r: &mut [u32; 1139], t: usize, n: NameNo, v: Held)
     r[163 + 61 * t + (1 + usize::from(n.0))] = v.0;
 }
 
-// Site i is shown (0) or hidden (1).
+// Site i is shown (0) or hidden (1): a number, since it is the record's word.
 pub fn set_flag(r: &mut [u32; 1139], i: usize, f: u32)
     requires { i < slot_limit }
     ensures { r.new ≡ records.put_site r.old i (records.set_flag (records.site r.old i) f) }
@@ -69,23 +69,24 @@ pub fn remove_thread(r: &mut [u32; 1139], t: usize)
     r[1] = last as u32;
 }
 
-// A held name, put into the eight words of a type from a place on.
+// A held name, put into the eight words of a type from a place on. By hand: the contract asks no order of the words, which a search of a sorted
+// slice would want, and they stay in place (fixed memory).
 #[tactic(auto, using(crate::proofs::Inserts::inserts))]
 pub fn insert_name(r: &mut [u32; 1139], at: usize, v: Held)
     requires { at + 8 ≤ records.record_length }
     ensures { r.new ≡ put r.old at (inserted v.0 (part r.old at 8)) }
 {
     let mut x = v.0;
-    for j in 0..8 {
-        let y = r[at + j];
+    for word in &mut r[at..at + 8] {
+        let y = *word;
         if y == x {
             return;
         }
         if y == 0 {
-            r[at + j] = x;
+            *word = x;
             return;
         }
-        r[at + j] = x.min(y);
+        *word = x.min(y);
         x = x.max(y);
     }
 }

@@ -1,5 +1,8 @@
 #![tactic(auto, using(crate::proofs::Records::words))]
-// Held names, and the box records of a state: their words, read where they stand. A box record is an array of its 1,139 words.
+// Held names, and the box records of a state: their words, read where they stand. A box record is an array of its 1,139 words, and
+// its readers and edits are functions: methods would want a type of its own around words that C lends. Where a word of a site or a thread stands is
+// written in what reads or writes it.
+// A word becomes a count, a line or a name's number by `as`: usize and u8 have no From<u32>.
 // Bounds of indices and counts stand in the clauses: a type for each bound would be taken apart at every use.
 ghost use Rattle.std.specs.Prelude.{◌≡◌, ◌+◌, ◌*◌, ◌<◌, ◌≤◌, ◌++◌, length, take, drop};
 ghost use Rattle.std.specs.Borrow.{sem, Lends, Array, u32};
@@ -106,7 +109,7 @@ pub fn binding(r: &[u32; 1139], t: usize, n: NameNo) -> Held
     Held(r[163 + 61 * t + (1 + usize::from(n.0))])
 }
 
-// Site i: its subject, 0 shown or 1 hidden, and word j of its type.
+// The subject of site i.
 pub fn subject(r: &[u32; 1139], i: usize) -> Held
     requires { i < slot_limit }
     ensures { result.0 ≡ records.subject (records.site r.now i) }
@@ -114,7 +117,7 @@ pub fn subject(r: &[u32; 1139], i: usize) -> Held
     Held(r[3 + 10 * i])
 }
 
-// A word of the record, which may be any number in a state that is lent.
+// Site i is shown (0) or hidden (1): a word of the record, which may be any number in a state that is lent.
 pub fn flag(r: &[u32; 1139], i: usize) -> u32
     requires { i < slot_limit }
     ensures { result ≡ records.flag (records.site r.now i) }
@@ -122,6 +125,7 @@ pub fn flag(r: &[u32; 1139], i: usize) -> u32
     r[3 + 10 * i + 1]
 }
 
+// Word j of the type of site i.
 pub fn type_word(r: &[u32; 1139], i: usize, j: usize) -> Held
     requires slot { i < slot_limit }
     requires place { j < type_limit }

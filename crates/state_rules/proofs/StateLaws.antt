@@ -1,28 +1,31 @@
 -- Laws of a whole state, decided by tables made once. Assumes nothing.
-use mathlib.Core.Path.{◌≡◌, refl, sym, ap, ap₂, subst, ◌∙◌}
+use mathlib.Core.Path.{◌≡◌, sym, ap, ap₂, subst, ◌∙◌}
 use mathlib.Core.Bool.{Bool, true, false}
 use mathlib.Core.List.{List}
+use mathlib.Core.Logic.{◌↔◌}
 use mathlib.Core.Option.{none}
-use Prim.Native.Nat.{ℕ, ◌+◌, ◌-◌, ◌*◌, ◌≤◌, ◌<◌}
-use native.Mathlib.Nat.{le_refl}
+use Prim.Native.Nat.{ℕ, ◌+◌, ◌-◌, ◌*◌, ◌≤◌, ◌<◌, zero-le}
 use native.Mathlib.Omega.{arith}
 use lib.Dec.{T}
 use lib.ListN.{length, get_or}
+use Rattle.std.specs.Prelude.{MatchBool}
+use Rattle.std.specs.List.{range_with_len, AllWithin, HoldsAt}
+use Rattle.std.proofs.lemmas.List.FromFn.{length-range_with_len, get_or-range_with_len}
 use Rattle.definitions.specs.Bounded.{◌and◌, ◌or◌, ◌is◌, ◌below◌, all_below}
 use Rattle.definitions.specs.Sets.{has}
-use Rattle.definitions.specs.Slots.{word}
 use Rattle.definitions.specs.Model.{Model, Line, line_count, binds, box_at, box_count, listed, kind_of_name}
 use Rattle.definitions.specs.Image.{name_count, kinds_of, model_of}
 use Rattle.definitions.specs.ReadModel.{read_model}
 use Rattle.definitions.specs.Record.{stamp_limit, stamp, threads, thread, line, record_of, last_stamps}
 use Rattle.definitions.specs.StateRules.{clear, record_fits, state_fits}
-use Rattle.definitions.proofs.Bounded.{is_iff, below_iff, upto_iff, all_iff, true_of, of_true, false_of, not-false}
+use Rattle.definitions.proofs.Bounded.{tests, is_iff, upto_iff, all_iff, true_of, of_true, false_of, not-false}
 use Rattle.definitions.proofs.Loops.{fails, holds, passing_start, passing_turn, passing_stop, passing_end}
 use Rattle.definitions.proofs.StateRules.{state_iff}
 use Rattle.definitions.proofs.Sets.{and-or}
-use Rattle.definitions.proofs.Slots.{word_slot}
+use Rattle.definitions.proofs.Slots.{slot_length}
 use Rattle.definitions.proofs.Image.{model_kinds, model_names, model_count}
 use Rattle.definitions.proofs.ReadModel.{read_iff, valid_image}
+use Rattle.sets.proofs.Ranges.{Each, One, each_in, one_in}
 use Rattle.records.specs.Places.{LinesThere, LinesAt}
 use Rattle.records.proofs.PlaceLaws.{line-at, line-count}
 use Rattle.box_runs.specs.Runs.{TreesFit}
@@ -34,7 +37,7 @@ use Rattle.model.proofs.Models.{unrefused_room, unrefused_lines}
 use Rattle.held_limits.specs.declared.Limit.{Limit}
 use Rattle.held_limits.specs.Limits.{LimitsOf, last_fits, StampsFit, LimitsFor}
 use Rattle.box_records.specs.Rules.{clear_between, SubjectsOf, AboveEach, StandBelow, NamesAbove, DecidesRecord}
-use Rattle.box_records.proofs.WordLaws.{between_iff, slots_each}
+use Rattle.box_records.proofs.WordLaws.{between_iff, slots_clear, slots_each}
 use Rattle.state_rules.specs.Records.{record_fits_at}
 
 -- ---- what a model that is not refused and its layout give
@@ -116,42 +119,33 @@ module _ (st : List ℕ) (b : ℕ) (r : List ℕ) (z : r ≡ record_of st b) whe
 
 -- ---- the records of the boxes that the model lacks
 
--- those before box b are zero
-pub record ClearTo (st : List ℕ) (boxes b : ℕ) : Type 0 where
-  pub reached : boxes ≤ b
-  pub most : b ≤ 8
-  pub each : (j : ℕ) → j < 1139 * b → 1139 * boxes ≤ j → word st j ≡ 0
+-- the test of a box's record has this answer
+abbrev pub clear_is : List ℕ → Bool → ℕ → Type 0
+clear_is st t b = t ≡ clear_between (record_of st b) 0 1139
 
-module _ (st : List ℕ) (boxes : ℕ) where
-  pub missing-start : boxes ≤ 8 → ClearTo st boxes boxes
-  missing-start h = record { reached = le_refl boxes; most = h; each = λ j a l. absurd (omega arith) }
+module _ (st : List ℕ) (long : length st ≡ 9112) (boxes : ℕ) (few : boxes ≤ 8) where
+  each_iff : T (clear_between st (1139 * boxes) 9112) ↔ ((b : ℕ) → b < 8 → boxes ≤ b → T (clear_between (record_of st b) 0 1139))
+  unfolding clear
+  each_iff = (
+    λ t b h l. (between_iff (record_of st b) 0 1139).1 (λ i q g. (simp tests at (slots.0 (subst (λ (a : ℕ). T (clear_between st a 9112)) from t) b h l)).1 i q),
+    λ f.
+        subst (λ (a : ℕ). T (clear_between st a 9112)) (sym from) (slots.1
+        (λ b h l. simp tests (slot_length 0 1139 8 st (omega (arith, long)) b h, λ i q. (between_iff (record_of st b) 0 1139).0 (f b h l) i q zero-le))),
+  )
+    where
+      from : 1139 * boxes ≡ 0 + 1139 * boxes
+      from = omega arith
 
-  pub missing_end : (b : ℕ) → ClearTo st boxes b → 8 ≤ b → true ≡ clear_between st (1139 * boxes) 9112
-  missing_end b k h =
-      sym (true_of (clear_between st (1139 * boxes) 9112) ((between_iff st (1139 * boxes) 9112).1 (λ j a l. k.each j (omega (arith, k.most)) l)))
+      slots : T (clear_between st (0 + 1139 * boxes) 9112) ↔ ((b : ℕ) → b < 8 → boxes ≤ b → T (clear 1139 (record_of st b)))
+      slots = slots_clear 0 1139 8 (omega arith) st (omega (arith, long)) boxes
 
-  module _ (b : ℕ) (k : ClearTo st boxes b) (r : List ℕ) (e : r ≡ record_of st b) where
-    word_in : (i : ℕ) → i < 1139 → word r i ≡ word st (0 + 1139 * b + i)
-    word_in i h = ap (λ (x : List ℕ). word x i) e ∙ word_slot 0 1139 st b i h
-
-    module _ (t : Bool) (q : t ≡ clear_between r 0 1139) (h : b < 8) where
-      pub missing_stop : t ≡ false → false ≡ clear_between st (1139 * boxes) 9112
-      missing_stop z =
-          sym (false_of (clear_between st (1139 * boxes) 9112) (λ u. not-false (sym q ∙ z) ((between_iff r 0 1139).1
-          (λ j a l. word_in j a ∙ (between_iff st (1139 * boxes) 9112).0 u (0 + 1139 * b + j) (omega arith) (omega (arith, k.reached))))))
-
-      pub missing-turn : t ≡ true → ClearTo st boxes (b + 1)
-      missing-turn z = record { reached = omega (arith, k.reached); most = omega arith; each = λ j a l. by j a l (j below 1139 * b) refl }
-        where
-          in_record : (i : ℕ) → i < 1139 → word st (0 + 1139 * b + i) ≡ 0
-          in_record i s = sym (word_in i s) ∙ (between_iff r 0 1139).0 (of_true (sym q ∙ z)) i s (omega arith)
-
-          by : (j : ℕ) → j < 1139 * (b + 1) → 1139 * boxes ≤ j → (x : Bool) → (j below 1139 * b) ≡ x → word st j ≡ 0
-          by j a l true u = k.each j ((below_iff j (1139 * b)).0 (of_true u)) l
-          by j a l false u =
-              let past : j < 1139 * b → ⊥ = λ s. not-false u ((below_iff j (1139 * b)).1 s) in
-              let sum : j ≡ 0 + 1139 * b + (j - 1139 * b) = omega (arith, past) in
-              ap (word st) sum ∙ in_record (j - 1139 * b) (omega (arith, past))
+  -- all these records are zero, as an iterator over their boxes says
+  pub missing_all : (t : Bool) → MatchBool t (Each (clear_is st true) boxes (8 - boxes)) (One (clear_is st false) boxes (8 - boxes)) → t ≡ clear_between st (1139 * boxes) 9112
+  missing_all true h =
+      sym (true_of (clear_between st (1139 * boxes) 9112) (each_iff.1 (λ b q l. of_true (sym (each_in (clear_is st true) boxes (8 - boxes) h b l (omega (arith, l, q)))))))
+  missing_all false h =
+      let o = one_in (clear_is st false) boxes (8 - boxes) h in
+      sym (false_of (clear_between st (1139 * boxes) 9112) (λ u. not-false (sym o.3) (each_iff.0 u o.0 (omega (arith, o.1, o.2)) o.1)))
 
 -- ---- a state
 
@@ -195,4 +189,4 @@ stamps_fit image l st t e h long q z = record { long = long; most = few_boxes im
 pub limits_of : (image : List ℕ) (l : Layout) (st : List ℕ) (limits : List Limit) → LimitsFor l st limits → LayoutOf image l → LimitsOf (model_of image) (last_stamps st) limits
 limits_of image l st limits k h = k.are image h
 
-pub ruleset state_rules = (missing-start, missing_end, missing_stop, missing-turn, few_boxes, few_names, stamps_fit, unrefused_room, used_lines, names_above, record_stamp, record_is, passing_start, passing_turn, passing_stop, passing_end, state_length_lem, state_stamps, state_misfit, state_clear, limits_of)
+pub ruleset state_rules = (few_boxes, few_names, stamps_fit, unrefused_room, used_lines, names_above, record_stamp, record_is, passing_start, passing_turn, passing_stop, passing_end, state_length_lem, state_stamps, state_misfit, state_clear, limits_of)

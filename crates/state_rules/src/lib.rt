@@ -1,5 +1,6 @@
 #![tactic(auto, using(crate::proofs::StateLaws::state_rules))]
 // The state rules: whether words are a state, in order, of a model that has been read.
+// A state is a slice, as C lends it, so its length, its last stamps (`StampsFit`) and what limits are for it (`LimitsOf`) are clauses.
 // Bounds of indices and counts stand in the clauses: a type for each bound would be taken apart at every use.
 ghost use Rattle.std.specs.Prelude.{◌≡◌, ◌*◌, ◌≤◌, length};
 ghost use Rattle.definitions.specs.Bounded.{all_below};
@@ -15,7 +16,7 @@ use held_limits::{Limit, NO_LIMIT};
 use model::ReadModel;
 use records::Lines;
 
-// The records of the model's boxes.
+// The records of the model's boxes, by a box's number, at which layout and state are read; `up` is written at each turn.
 fn records_fit(m: &ReadModel<'_>, limits: &[Limit; 64], state: &[u32]) -> bool
     requires stamps { StampsFit state.now m.now.layout.boxes }
     requires limits { LimitsOf (model_of m.now.image.now) (words.last_stamps state.now) limits.now }
@@ -51,12 +52,7 @@ fn missing_clear(state: &[u32], boxes: usize) -> bool
     requires few { boxes ≤ 8 }
     ensures { result ≡ clear_between state.now (1139 * boxes) 9112 }
 {
-    for b in boxes..8 {
-        if !box_records::run_clear(state::record(state, b), 0, 1139) {
-            return false;
-        }
-    }
-    true
+    (boxes..8).all(|b| box_records::run_clear(state::record(state, b), 0, 1139))
 }
 
 // The words, however many, obey the state rules of a model.

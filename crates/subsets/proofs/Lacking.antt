@@ -6,13 +6,13 @@ use Prim.Native.Nat.{ℕ, ◌-◌, ◌^◌, ◌<◌}
 use native.Mathlib.Nat.{lt_of_le_of_lt, lt_trans}
 use native.Mathlib.Omega.{arith}
 use borrow.Author.Tests.{eq-eqb}
-use mir.Syntax.{w8}
-use mir.Val.{Fits}
-use lib.Bits.{bit_and, bit_xor, and_le_l, xor_add_and}
-use lib.Count.{count_trailing_zeros, count_leading_zeros, trailing_le, leading_le}
+use lib.Bits.{bit_and, and_le_l}
+use lib.Count.{count_trailing_zeros}
 use Rattle.definitions.specs.Bounded.{◌and◌, some_if, when}
 use Rattle.definitions.specs.Sets.{has, absent, first_short, missing}
 use Rattle.definitions.proofs.Bounded.{of_true, each_none, first_stop}
+use Rattle.sets.specs.Lowest.{lowest_of}
+use Rattle.sets.proofs.Walk.{lowest-word}
 use Rattle.definitions.proofs.Sets.{has_minus, low_clear, low_set, missing_iff, within_iff, within_word}
 
 -- a name that both have, or that the first lacks, is not missing; one that only the first has is
@@ -33,9 +33,9 @@ module _ (a b : ℕ) (ha : a < 2 ^ 64) (hb : b < 2 ^ 64) where
   lack_none z =
       sym ((missing_iff a b).1 ((within_iff a b).0 (of_true (sym (within_word a b ha hb) ∙ eq-eqb (bit_and a (2 ^ 64 - 1 - b)) 0 z))))
 
-  pub lack_some : (bit_and a (2 ^ 64 - 1 - b) ≡ 0 → ⊥) → some (count_trailing_zeros 64 (bit_and a (2 ^ 64 - 1 - b))) ≡ missing a b
+  lack_zeros : (bit_and a (2 ^ 64 - 1 - b) ≡ 0 → ⊥) → some (count_trailing_zeros 64 (bit_and a (2 ^ 64 - 1 - b))) ≡ missing a b
   unfolding missing first_short absent
-  lack_some z =
+  lack_zeros z =
       let d = bit_and a (2 ^ 64 - 1 - b) in
       let n = count_trailing_zeros 64 d in
       let low = low_set 64 d (omega arith) (lt_of_le_of_lt (and_le_l a (2 ^ 64 - 1 - b)) ha) in
@@ -44,12 +44,10 @@ module _ (a b : ℕ) (ha : a < 2 ^ 64) (hb : b < 2 ^ 64) where
       (each_none asked n (λ j l. asked_none (has a j) (has b j) j (sym (has_minus a b j hb (lt_trans l low.0)) ∙ low_clear 64 d j l)))
       (asked_some (has a n) (has b n) n (sym (has_minus a b n hb low.0) ∙ low.1)))
 
--- a count of zeros, and its distance from 63, fit a byte
-pub zeros_fit : (d : ℕ) → Fits w8 (count_trailing_zeros 64 d)
-zeros_fit d = record { fits = omega (arith, trailing_le 64 d) }
-
-pub distance_fits : (d : ℕ) → Fits w8 (bit_xor 63 (count_leading_zeros 64 d))
-distance_fits d = record { fits = omega (arith, xor_add_and 63 (count_leading_zeros 64 d), leading_le 64 d) }
+  pub lack_some : (n : ℕ) → 0 < bit_and a (2 ^ 64 - 1 - b) → n ≡ lowest_of (bit_and a (2 ^ 64 - 1 - b)) → some n ≡ missing a b
+  lack_some n p e =
+      let d = bit_and a (2 ^ 64 - 1 - b) in
+      ap some (e ∙ sym (lowest-word d (lt_of_le_of_lt (and_le_l a (2 ^ 64 - 1 - b)) ha))) ∙ lack_zeros (λ z. omega (arith, p, z))
 
 -- one name
 module _ (s n : ℕ) (t : Bool) (e : t ≡ has s n) where

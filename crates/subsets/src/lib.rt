@@ -18,10 +18,8 @@ pub fn absent(s: u64, n: NameNo) -> Result<(), NameNo>
 pub fn missing(a: u64, b: u64) -> Result<(), NameNo>
     ensures { within_in result ≡ names.missing a b }
 {
-    let lacking = a & !b;
-    if lacking == 0 {
-        return Ok(());
+    match sets::lowest(a & !b) {
+        Some(n) => Err(n),
+        None => Ok(()),
     }
-    let n = u64::trailing_zeros(lacking) as u8;
-    Err(NameNo(n))
 }

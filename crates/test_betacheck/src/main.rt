@@ -3,8 +3,10 @@
 use std::rt::Files;
 
 fn one<R: Files + Print + Eprint>(rt: &R, digit: u8) {
-    let model = [digit, b'.', b'm', b'o', b'd', b'e', b'l'];
-    let estimate = [digit, b'.', b'e', b's', b't', b'i', b'm', b'a', b't', b'e'];
+    let mut model = *b"0.model";
+    let mut estimate = *b"0.estimate";
+    model[0] = digit;
+    estimate[0] = digit;
     programs::check_files(rt, &model, &estimate);
 }
 

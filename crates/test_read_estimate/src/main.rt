@@ -1,17 +1,13 @@
 #![tactic(auto)]
 // Reads six pairs of a model and an estimate, 0.model and 0.estimate to 5.model and 5.estimate, and writes each estimate's sets, or the
 // line of its refusal.
+// Bounds of indices and counts stand in the clauses: a type for each bound would be taken apart at every use.
 ghost use Rattle.std.specs.Prelude.{◌+◌, ◌*◌, ◌<◌, ◌≤◌, length};
 
-use programs::{end_line, number, set, write};
+use programs::{ESTIMATE_BUFFER, MODEL_BUFFER, Names};
+use refusals::Refusal;
 use sets::NameNo;
 use std::rt::Files;
-
-// A set, and the end of its line.
-fn last_set<R: Print>(rt: &R, s: u64) {
-    set(rt, s);
-    end_line(rt);
-}
 
 // An estimate's image, and of how many names and boxes it is written.
 #[derive(Clone, Copy)]
@@ -27,9 +23,8 @@ struct Shown<'a> {
 impl<'a> Shown<'a> {
     fn rhos<R: Print>(&self, rt: &R) {
         for n in 0..self.names {
-            write(rt, b"rho");
-            number(rt, n as u64);
-            last_set(rt, estimate::rho(self.image, NameNo(n)));
+            let rho = Names(estimate::rho(self.image, NameNo(n)));
+            let _ = println!(rt; "rho {n} {rho}");
         }
     }
 
@@ -37,10 +32,8 @@ impl<'a> Shown<'a> {
         requires { b < self.now.boxes }
     {
         for n in 0..self.names {
-            write(rt, b"eps");
-            number(rt, b as u64);
-            number(rt, n as u64);
-            last_set(rt, estimate::eps(self.image, b, NameNo(n)));
+            let eps = Names(estimate::eps(self.image, b, NameNo(n)));
+            let _ = println!(rt; "eps {b} {n} {eps}");
         }
     }
 
@@ -49,22 +42,18 @@ impl<'a> Shown<'a> {
         requires { b < self.now.boxes }
     {
         for n in 0..self.names {
-            write(rt, b"kap");
-            number(rt, b as u64);
-            number(rt, n as u64);
-            last_set(rt, estimate::kap(self.image, b, NameNo(n)));
+            let kap = Names(estimate::kap(self.image, b, NameNo(n)));
+            let _ = println!(rt; "kap {b} {n} {kap}");
         }
     }
 
     fn one_box<R: Print>(&self, rt: &R, b: usize)
         requires { b < self.now.boxes }
     {
-        write(rt, b"shown");
-        number(rt, b as u64);
-        last_set(rt, estimate::shown(self.image, b));
-        write(rt, b"hidden");
-        number(rt, b as u64);
-        last_set(rt, estimate::hidden(self.image, b));
+        let shown = Names(estimate::shown(self.image, b));
+        let hidden = Names(estimate::hidden(self.image, b));
+        let _ = println!(rt; "shown {b} {shown}");
+        let _ = println!(rt; "hidden {b} {hidden}");
         self.epss(rt, b);
         self.kaps(rt, b);
     }
@@ -77,18 +66,16 @@ impl<'a> Shown<'a> {
     }
 }
 
-fn refused<R: Print>(rt: &R, image: &[u8], number_of: u8, place: usize, second: usize) {
-    write(rt, image);
-    number(rt, number_of as u64);
-    number(rt, place as u64);
-    number(rt, second as u64);
-    end_line(rt);
+// The line of a refusal; an estimate's has no second place, which is written as 0.
+fn refused<R: Print>(rt: &R, image: &str, r: Refusal) {
+    let _ = println!(rt; "refused {image} {} {} {}", r.number, r.place, r.second);
 }
 
 fn show<R: Print>(rt: &R, image: &[u8], names: usize, boxes: usize) {
     match estimate::read(image, names, boxes) {
         Ok(()) => {
             if names <= 60 && boxes <= 8 && 512 * (1 + 2 * boxes) <= image.len() {
+                // u8 has no From<usize>.
                 let names = names as u8;
                 let shown = Shown {
                     image,
@@ -98,22 +85,24 @@ fn show<R: Print>(rt: &R, image: &[u8], names: usize, boxes: usize) {
                 shown.all(rt);
             }
         }
-        Err(r) => refused(rt, b"refused estimate", r.number, r.place, 0),
+        Err(r) => refused(rt, "estimate", r),
     }
 }
 
 fn pair<R: Print>(rt: &R, model: &[u8], image: &[u8]) {
     match model::read(model) {
         Ok(m) => show(rt, image, m.layout.names, m.layout.boxes),
-        Err(r) => refused(rt, b"refused model", r.number, r.place, r.second),
+        Err(r) => refused(rt, "model", r),
     }
 }
 
 fn one<R: Files + Print>(rt: &R, digit: u8) {
-    let model = [digit, b'.', b'm', b'o', b'd', b'e', b'l'];
-    let image = [digit, b'.', b'e', b's', b't', b'i', b'm', b'a', b't', b'e'];
-    let mut first = programs::model_buffer();
-    let mut second = programs::estimate_buffer();
+    let mut model = *b"0.model";
+    let mut image = *b"0.estimate";
+    model[0] = digit;
+    image[0] = digit;
+    let mut first = [0; MODEL_BUFFER];
+    let mut second = [0; ESTIMATE_BUFFER];
     let m = programs::load(rt, &model, &mut first);
     let e = programs::load(rt, &image, &mut second);
     pair(rt, &first[..m], &second[..e]);

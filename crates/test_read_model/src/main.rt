@@ -1,52 +1,47 @@
 #![tactic(auto)]
 // Reads the model images of its folder and writes each: its names, boxes, sites and lines, or the line of its refusal.
 // Bounds of indices and counts stand in the clauses: a type for each bound would be taken apart at every use.
-ghost use Rattle.std.specs.Prelude.{◌<◌};
-ghost use Rattle.records.specs.Places.{LinesAt, SitesAt};
+ghost use Rattle.std.specs.Prelude.{◌<◌, ◌≤◌};
 
 use model::ReadModel;
-use programs::{end_line, number, set, write};
-use records::{Line, Site};
+use programs::{MODEL_BUFFER, Names};
+use records::{Line, Lines, Site};
 use sets::NameNo;
 use std::rt::Files;
 
 fn show_site<R: Print>(rt: &R, b: usize, i: usize, s: Site) {
-    write(rt, b"site");
-    number(rt, b as u64);
-    number(rt, i as u64);
-    number(rt, s.subject.0 as u64);
-    number(rt, s.flag as u64);
-    set(rt, s.names);
-    end_line(rt);
+    let _ = println!(rt;
+        "site {b} {i} {} {} {}",
+        s.subject.0,
+        s.flag,
+        Names(s.names)
+    );
 }
 
 fn show_line<R: Print>(rt: &R, b: usize, i: usize, l: Line) {
-    write(rt, b"line");
-    number(rt, b as u64);
-    number(rt, i as u64);
-    number(rt, l.op as u64);
-    number(rt, l.name1.0 as u64);
-    number(rt, l.name2.0 as u64);
-    number(rt, l.child1 as u64);
-    number(rt, l.child2 as u64);
-    set(rt, l.names);
-    end_line(rt);
+    let _ = println!(rt;
+        "line {b} {i} {} {} {} {} {} {}",
+        l.op,
+        l.name1.0,
+        l.name2.0,
+        l.child1,
+        l.child2,
+        Names(l.names)
+    );
 }
 
-fn show_sites<R: Print>(rt: &R, image: &[u8], b: usize, k: usize, n: usize)
-    requires { SitesAt image.now b k n }
+// The first n sites of a block.
+fn show_sites<R: Print>(rt: &R, b: usize, block: &[u8; 512], n: usize)
+    requires { n ≤ 31 }
 {
-    let block = records::inside::block(image, k);
     for i in 0..n {
         show_site(rt, b, i, records::inside::site(block, i));
     }
 }
 
-fn show_lines<R: Print>(rt: &R, image: &[u8], b: usize, k: usize, n: usize)
-    requires { LinesAt image.now b k n }
-{
-    for i in 0..n {
-        show_line(rt, b, i, records::inside::line(image, k, i));
+fn show_lines<R: Print>(rt: &R, b: usize, lines: Lines<'_>) {
+    for i in 0..lines.n {
+        show_line(rt, b, i, lines.line(i));
     }
 }
 
@@ -55,21 +50,19 @@ fn show_box<R: Print>(rt: &R, m: &ReadModel<'_>, b: usize)
     requires { b < m.now.layout.boxes }
 {
     let place = m.layout.each[b];
-    write(rt, b"box");
-    number(rt, b as u64);
-    write(rt, b" sites");
-    number(rt, place.sites as u64);
-    write(rt, b" lines");
-    number(rt, place.lines as u64);
-    end_line(rt);
-    show_sites(rt, m.image, b, place.at, place.sites);
-    show_lines(rt, m.image, b, place.at, place.lines);
+    let _ = println!(rt; "box {b} sites {} lines {}", place.sites, place.lines);
+    let block = records::inside::block(m.image, place.at);
+    show_sites(rt, b, block, place.sites);
+    let lines = Lines {
+        image: m.image,
+        k: place.at,
+        n: place.lines,
+    };
+    show_lines(rt, b, lines);
 }
 
 fn show_boxes<R: Print>(rt: &R, m: &ReadModel<'_>) {
-    write(rt, b"boxes");
-    number(rt, m.layout.boxes as u64);
-    end_line(rt);
+    let _ = println!(rt; "boxes {}", m.layout.boxes);
     for b in 0..m.layout.boxes {
         show_box(rt, m, b);
     }
@@ -77,14 +70,11 @@ fn show_boxes<R: Print>(rt: &R, m: &ReadModel<'_>) {
 
 #[tactic(auto, using(crate::proofs::Shown::shown))]
 fn show_names<R: Print>(rt: &R, m: &ReadModel<'_>) {
-    write(rt, b"names");
-    number(rt, m.layout.names as u64);
-    end_line(rt);
+    let _ = println!(rt; "names {}", m.layout.names);
     for n in 0..m.layout.names {
-        write(rt, b"name");
-        number(rt, n as u64);
-        number(rt, records::inside::kind(m.image, NameNo(n as u8)));
-        end_line(rt);
+        // u8 has no From<usize>.
+        let kind = records::inside::kind(m.image, NameNo(n as u8));
+        let _ = println!(rt; "name {n} {kind}");
     }
 }
 
@@ -95,35 +85,30 @@ fn show<R: Print>(rt: &R, image: &[u8]) {
             show_boxes(rt, &m);
         }
         Err(x) => {
-            write(rt, b"refused model");
-            number(rt, x.number as u64);
-            number(rt, x.place as u64);
-            number(rt, x.second as u64);
-            end_line(rt);
+            let _ = println!(rt; "refused model {} {} {}", x.number, x.place, x.second);
         }
     }
 }
 
-fn file<R: Files + Print>(rt: &R, path: &[u8]) {
-    let mut buffer = programs::model_buffer();
-    let n = programs::load(rt, path, &mut buffer);
-    write(rt, path);
-    end_line(rt);
+fn file<R: Files + Print>(rt: &R, path: &str) {
+    let mut buffer = [0; MODEL_BUFFER];
+    let n = programs::load(rt, path.as_bytes(), &mut buffer);
+    let _ = println!(rt; "{path}");
     show(rt, &buffer[..n]);
 }
 
 fn main(rt: HostRuntime) {
-    file(&rt, b"accepted.blk");
-    file(&rt, b"length.blk");
-    file(&rt, b"missing.blk");
-    file(&rt, b"check.blk");
-    file(&rt, b"heading.blk");
-    file(&rt, b"left_over.blk");
-    file(&rt, b"count.blk");
-    file(&rt, b"stray.blk");
-    file(&rt, b"site.blk");
-    file(&rt, b"line.blk");
-    file(&rt, b"tree.blk");
-    file(&rt, b"reach.blk");
-    file(&rt, b"full.blk");
+    file(&rt, "accepted.blk");
+    file(&rt, "length.blk");
+    file(&rt, "missing.blk");
+    file(&rt, "check.blk");
+    file(&rt, "heading.blk");
+    file(&rt, "left_over.blk");
+    file(&rt, "count.blk");
+    file(&rt, "stray.blk");
+    file(&rt, "site.blk");
+    file(&rt, "line.blk");
+    file(&rt, "tree.blk");
+    file(&rt, "reach.blk");
+    file(&rt, "full.blk");
 }

@@ -1,5 +1,6 @@
 #![tactic(auto)]
 // Little-endian numbers at a place of a slice. Each call requires the bytes that it reads.
+// Bounds of indices and counts stand in the clauses: a type for each bound would be taken apart at every use.
 ghost use Rattle.std.specs.Prelude.{◌≡◌, ◌+◌, ◌*◌, ◌<◌, ◌≤◌, length};
 ghost use Rattle.definitions.specs.Words.{byte_at, word_at};
 
@@ -11,6 +12,7 @@ pub fn byte(s: &[u8], at: usize) -> usize
     usize::from(s[at])
 }
 
+// Two bytes. half and word differ in length: the library has `from_le_bytes` for each.
 #[tactic(auto, unfolding(definitions::specs::Words::byte_at))]
 pub fn half(s: &[u8], at: usize) -> usize
     requires { at + 2 ≤ length s.now }

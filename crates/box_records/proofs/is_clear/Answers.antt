@@ -1,6 +1,8 @@
 -- `box_records::is_clear` meets its contract. Assumes nothing.
-use Rattle.box_records.proofs.WordLaws.{runs_turn}
+use Rattle.std.proofs.Common.{rules, arith}
+use Rattle.std.proofs.iter.runs.Made.{chains}
+use Rattle.box_records.proofs.WordLaws.{runs_some}
 use Rattle.box_records.proofs.is_clear.Goals as goal
 
-pub loop-i-preserved : goal.loop-i-preserved
-loop-i-preserved c = runs_turn _ _ _ c.loop-i.invariant _ _ c.run_clear.ensures c.if-not-run_clear.false c.loop-i-test.true c.requires.end
+pub returns-else-all : goal.returns-else-all
+returns-else-all c = runs_some _ _ _ c.requires.start (omega (arith, c.requires.end, c.told-r)) _ (search (rules, chains)) c.if-all.false

@@ -6,6 +6,6 @@ use Rattle.clause_walk.proofs.list_passes.Given as goal
 
 abbrev pub invariant-loop-i : goal.invariant-loop-i
 invariant-loop-i l = record {
-  passed : ListPassed l.model (estimate_of l.t.estimate.image.now) l.t.estimate.boxes l.b l.k l.listed l.i-index;
+  passed : ListPassed l.named.lines.image.now (estimate_of l.t.estimate.image.now) l.t.estimate.boxes l.b l.named.lines.k l.listed l.i-index;
   gathered : GatheredOf (estimate_of l.t.estimate.image.now) l.t.estimate.boxes l.b l.g;
 }

@@ -2,5 +2,5 @@
 use Rattle.layouts.proofs.LayoutLaws.{FrameSoFar}
 use Rattle.layouts.proofs.frame_of.Given as goal
 
-abbrev pub invariant-loop-b : goal.invariant-loop-b
-invariant-loop-b l = FrameSoFar l.blocks.image.now l.boxes l.b l.k l.each
+abbrev pub invariant-loop-place : goal.invariant-loop-place
+invariant-loop-place l = FrameSoFar l.blocks.image.now l.boxes l.place-index l.k l.place-items

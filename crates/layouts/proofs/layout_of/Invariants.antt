@@ -2,5 +2,5 @@
 use Rattle.layouts.proofs.BoundLaws.{BoundSoFar}
 use Rattle.layouts.proofs.layout_of.Given as goal
 
-abbrev pub invariant-loop-b : goal.invariant-loop-b
-invariant-loop-b l = BoundSoFar l.image l.frame l.b l.each
+abbrev pub invariant-loop-place : goal.invariant-loop-place
+invariant-loop-place l = BoundSoFar l.image l.frame.boxes l.place-index l.place-items

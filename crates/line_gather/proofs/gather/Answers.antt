@@ -8,5 +8,5 @@ loop-i-init c = gathers_start _ _ _ _ _ _ c.requires.ops_empty c.requires.sent_e
 
 pub loop-i-preserved : goal.loop-i-preserved
 loop-i-preserved c =
-    gathers_turn _ _ _ _ _ _ _ _ _ (search rules) (search rules) (search rules) c.loop-i.invariant c.loop-i-test.true c.requires.lines _ c.line.ensures _
+    gathers_turn _ _ _ _ _ _ _ _ _ (search rules) (search rules) (search rules) c.loop-i.invariant c.loop-i-test.true c.args.named.named _ c.line-l.ensures _
     c.rho.ensures _ _ _ _ c.put_name.ensures c.put_sent.ensures c.put_line-c.ensures

@@ -1,7 +1,7 @@
 -- `runs::run_each` meets its contract. Assumes nothing.
 use mathlib.Core.Path.{sym, ap, ◌∙◌}
 use native.Mathlib.Omega.{arith}
-use lib.ListN.{length-map}
+use lib.ListN.{length-map, set}
 use Rattle.std.proofs.lemmas.List.{get_or-map}
 use Rattle.runs.proofs.Fold.{no_move, moves_start, moves_turn}
 use Rattle.runs.proofs.run_each.Goals as goal
@@ -14,5 +14,5 @@ pub loop-i-preserved : goal.loop-i-preserved
 loop-i-preserved g c =
     let f = g.T.Listed.as_move in
     moves_turn _ _ _ _ _ _ _ _ c.loop-i.invariant (omega (arith, c.loop-i-test.true, length-map c.args.moves.now f)) _
-    (get_or-map f c.args.moves.now c.loop-i.i c.index-moves-i.result no_move c.loop-i-test.true ∙ ap f (sym c.index-moves-i.is) ∙ sym c.get.ensures)
-    _ _ c.turn_at.ensures.words c.turn_at.ensures.answer c.turn_at.ensures.keeps
+    (get_or-map f c.args.moves.now c.loop-i.i c.index-moves-i.result no_move c.loop-i-test.true ∙ ap f (sym c.index-moves-i.is) ∙ sym (c.from.ensures ∙ c.get.ensures))
+    _ _ c.turn.ensures.words (ap (set c.loop-i.answers c.loop-i.i) (c.number.ensures ∙ c.turn.ensures.answer)) c.turn.ensures.keeps

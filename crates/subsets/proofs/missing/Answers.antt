@@ -1,14 +1,10 @@
--- `subsets::missing` meets its contract: the zeros below the lowest set digit of `a & !b` are counted. The cast is of a count of zeros, or of its
--- distance from 63, in any word: so the highest name, or one of another set, fails at the answer. Assumes nothing.
-use borrow.Author.Rules.{rules}
-use Rattle.subsets.proofs.Lacking.{lack_none, lack_some, zeros_fit, distance_fits}
+-- `subsets::missing` meets its contract: the lowest member of `a & !b` is the lowest that b lacks. Assumes nothing.
+use Rattle.subsets.proofs.Lacking.{lack_none, lack_some}
 use Rattle.subsets.proofs.missing.Goals as goal
 
-pub returns-then-lacking-eq0 : goal.returns-then-lacking-eq0
-returns-then-lacking-eq0 c = lack_none c.args.a c.args.b c.ranges.a.fits c.ranges.b.fits c.if-lacking-eq0.true
+pub returns-in-Some : goal.returns-in-Some
+returns-in-Some c =
+    let e = c.in-Some.ensures in lack_some c.args.a c.args.b c.ranges.a.fits c.ranges.b.fits c.in-Some.n.0 e.0 e.1
 
-pub overflow_cast-n : goal.overflow_cast-n
-overflow_cast-n c = search (rules, zeros_fit, distance_fits)
-
-pub returns : goal.returns
-returns c = lack_some c.args.a c.args.b c.ranges.a.fits c.ranges.b.fits c.if-lacking-eq0.false
+pub returns-in-None : goal.returns-in-None
+returns-in-None c = lack_none c.args.a c.args.b c.ranges.a.fits c.ranges.b.fits c.in-None.ensures

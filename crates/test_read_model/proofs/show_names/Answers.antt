@@ -4,7 +4,7 @@ use Rattle.test_read_model.proofs.Shown.{name_few}
 use Rattle.test_read_model.proofs.show_names.Goals as goal
 
 pub overflow_cast-n : goal.overflow_cast-n
-overflow_cast-n g c = let few = name_few _ c.args.m.now.read _ c.args.m.now.of c.loop-n.n (search rules) in omega arith
+overflow_cast-n g c = let few = name_few _ c.args.m.now.read _ c.args.m.now.of c.loop-n.n-counter (search rules) in omega arith
 
-pub kind-requires-clause-few : goal.kind-requires-clause-few
-kind-requires-clause-few g c = name_few _ c.args.m.now.read _ c.args.m.now.of c.loop-n.n (search rules)
+pub kind-kind-requires-clause-few : goal.kind-kind-requires-clause-few
+kind-kind-requires-clause-few g c = name_few _ c.args.m.now.read _ c.args.m.now.of c.loop-n.n-counter (search rules)

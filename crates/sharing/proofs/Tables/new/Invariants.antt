@@ -4,4 +4,4 @@ use Rattle.sharing.proofs.Rows.{Rows}
 use Rattle.sharing.proofs.Tables.new.Given as goal
 
 abbrev pub invariant-loop-k : goal.invariant-loop-k
-invariant-loop-k l = Rows no_sets (SetsOf l.e.image.now) l.k l.each
+invariant-loop-k l = Rows no_sets (SetsOf l.e.image.now) l.e.boxes l.k l.x-items

@@ -2,5 +2,5 @@
 use Rattle.state.proofs.Inserts.{Inserting}
 use Rattle.state.proofs.edits.insert_name.Given as goal
 
-abbrev pub invariant-loop-j : goal.invariant-loop-j
-invariant-loop-j l = Inserting l.initial.r l.at l.initial.x l.j l.x l.r
+abbrev pub invariant-loop-word : goal.invariant-loop-word
+invariant-loop-word l = Inserting l.initial.word-items l.initial.x l.word-index l.x l.word-items
