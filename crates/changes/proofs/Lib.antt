@@ -1,3 +1,4 @@
 pub mod MissingName
+pub mod Hiding
 pub mod PrivateFirst
 pub mod LongerRuns

@@ -23,10 +23,10 @@ use Rattle.definitions.proofs.Image.{model_count, model_kinds, model_names}
 use Rattle.definitions.proofs.Valid.{Valid}
 use Rattle.definitions.proofs.ReadModel.{valid_image}
 use Rattle.definitions.proofs.ReadEstimate.{estimate_fits}
-use Rattle.definitions.proofs.Sets.{meets_iff, short_iff, short_some, absent_iff, missing_iff, missing-some}
-use Rattle.definitions.proofs.Faults.{when_iff, when-some}
+use Rattle.definitions.proofs.Sets.{meets_iff, short_iff, short_some, absent_iff, absent-some, missing_iff, missing-some}
+use Rattle.definitions.proofs.Faults.{else_some, else_each, when_iff, when-some}
 use Rattle.definitions.proofs.Clauses.{Within, Share, sets, clause1_iff, clause2_iff, clause3_iff, clause4_iff, clause5_iff, clause6_iff, clause7_iff, clause8_iff, clause9_iff}
-use Rattle.changes.specs.MissingName.{old_within, OldBroken, old_broken, old_clause1, old_clause2, old_clause3, old_clause4, old_clause5, old_clause6, old_clause7, old_clause8, old_clause9, old_asks, old_line_broken, old_name_broken, old_site_broken, old_box_broken, old_first_broken, OldVerdict, old_verdict_of, old_after_estimate, old_after_model, old_check, OldReply, old_reply, old_is_shut_off, old_nobody, old_question, without_name, verdict_without, reply_without, Lowest, FirstAt, Then, Asked, Before, FirstPartner, Names, MissingName}
+use Rattle.changes.specs.MissingName.{old_within, OldBroken, old_broken, old_clause1, old_clause2, old_clause3, old_clause4, old_clause5, old_clause6, old_clause7, old_clause8, old_clause9, old_asks, old_line_broken, old_name_broken, old_site_broken, old_box_broken, old_first_broken, OldVerdict, old_verdict_of, old_after_estimate, old_after_model, old_check, OldReply, old_reply, old_is_shut_off, old_nobody, old_question, without_name, verdict_without, reply_without, Lowest, FirstAt, LowestOf, Then, Asked, Before, FirstPartner, Names, MissingName}
 
 -- ---- a clause's test passed exactly when no name is missing
 
@@ -76,11 +76,11 @@ module _ (e : Estimate) where
         (λ z. let c = (clause7_iff e b l).0 z in simp sets ((c.self, c.shown), c.type))
 
     eight_met : old_clause8 e b l ≡ met (clause8 e b l)
-    unfolding old_clause8 old_within
+    unfolding old_clause8
     eight_met = as_met (old_clause8 e b l) (clause8 e b l) (λ t. (clause8_iff e b l).1 (simp sets at t)) (λ z. simp sets ((clause8_iff e b l).0 z))
 
     nine_met : old_clause9 e b l ≡ met (clause9 e b l)
-    unfolding old_clause9 old_within
+    unfolding old_clause9
     nine_met = as_met (old_clause9 e b l) (clause9 e b l) (λ t. (clause9_iff e b l).1 (simp sets at t)) (λ z. simp sets ((clause9_iff e b l).0 z))
 
 -- ---- the first broken clause without its name
@@ -210,20 +210,18 @@ module _ (model estimate : List ℕ) where
 lowest : (a c x : ℕ) → missing a c ≡ some x → Lowest a c x
 lowest a c x z = let m = missing-some a c x z in record { name = m.0; asked = m.1; lacking = m.2; lower = m.3 }
 
-absent-some : (s n x : ℕ) → absent s n ≡ some x → (x ≡ n) × (T (has s n) → ⊥)
-unfolding absent
-absent-some s n x z = let f = fault_some (not (has s n)) n x z in (sym f.1, T_not (has s n) f.0)
-
--- the first of two is short, or it is met and the second is short
-else_some : {A : Type 0} (a b : Option A) (x : A) → or_else a b ≡ some x → (a ≡ some x) ⊎ ((a ≡ none) × (b ≡ some x))
-else_some none b x z = inr (refl, z)
-else_some (some y) b x z = inl z
-
 first-at : (s : ℕ) (f : ℕ → Option ℕ) (x : ℕ) (Missing Met : ℕ → Type 0) → ((n : ℕ) → f n ≡ some x → Missing n) → ((n : ℕ) → f n ≡ none → Met n)
     → first_short s f ≡ some x → FirstAt s Missing Met
 first-at s f x Missing Met g h z =
     let y = short_some s f x z in
     record { member = y.0; name = y.1; inside = y.2; short = g y.0 y.3; lower = λ n l t. h n (y.4 n l t) }
+
+-- clauses 8 and 9
+lowest_of_lem : (a d c x : ℕ) → first_short a (λ n. when (has d n) (absent c n)) ≡ some x → LowestOf a d c x
+lowest_of_lem a d c x z =
+    first-at a (λ n. when (has d n) (absent c n)) x (λ n. (x ≡ n) × T (has d n) × (T (has c n) → ⊥)) (λ n. T (has d n) → T (has c n))
+    (λ n q. let w = when-some (has d n) (absent c n) x q in let y = absent-some c n x w.1 in (y.0, w.0, y.1))
+    (λ n q t. (absent_iff c n).0 ((when_iff (has d n) (absent c n)).0 q t)) z
 
 module _ (e : Estimate) where
   clause_2 : (b : ℕ) (s : Site) (x : ℕ) → clause2 e b s ≡ some x
@@ -370,8 +368,8 @@ module _ (e : Estimate) where
         (λ a. lowest (e.kap b a) (e.rho l.name2) x) (λ a. (missing_iff (e.kap b a) (e.rho l.name2)).0) z;
     six = λ boxes b l x. clause_6 b l x boxes;
     seven = clause_7;
-    eight = λ b l x. lowest (e.rho l.name1) (e.hidden b) x;
-    nine = λ b l x. lowest (e.rho l.name1) (e.shown b) x;
+    eight = λ b l x. lowest_of_lem (e.rho l.name1) (e.shown b) (e.hidden b) x;
+    nine = λ b l x. lowest_of_lem (e.rho l.name1) (e.hidden b) (e.shown b) x;
   }
 
 -- ---- the name is one of the model's
@@ -391,10 +389,10 @@ module _ (m : Model) (e : Estimate) (valid : Valid m) (rho : (n : ℕ) → n < 6
   of_kap : (b n : ℕ) → b < box_count m → n < length m.kinds → (a : ℕ) → T (has (e.kap b n) a) → a < length m.kinds
   of_kap b n g h = kap b g n (omega (arith, valid.names))
 
-  -- of two the first that gives a name, and a name that is asked for where a line has an operation
-  each : {A : Type 0} (P : A → Type 0) (a b : Option A) (x : A) → (a ≡ some x → P x) → (b ≡ some x → P x) → or_else a b ≡ some x → P x
-  each P a b x f g z = ⊎_elim f (λ q. g q.1) (else_some a b x z)
+  of_turned : (n d c x : ℕ) → n < length m.kinds → LowestOf (e.rho n) d c x → x < length m.kinds
+  of_turned n d c x h f = of_rho n h x (rw f.short.0 f.inside)
 
+  -- a name that is asked for where a line has an operation
   at_op : (op k n b i : ℕ) (o : Option ℕ) (x : Broken) → (op ≡ k → o ≡ some x.name → x.name < length m.kinds) → when (op is k) (broken_at n b i o) ≡ some x
       → x.name < length m.kinds
   at_op op k n b i o x f z = let w = when-some (op is k) (broken_at n b i o) x z in f ((is_iff op k).0 w.0) (at_some n b i o x w.1)
@@ -427,31 +425,31 @@ module _ (m : Model) (e : Estimate) (valid : Valid m) (rho : (n : ℕ) → n < 6
         let r6 = or_else u6 r7 in
         let r5 = or_else u5 r6 in
         let r4 = or_else u4 r5 in
-        each P u3 r4 x (at_op l.op restriction 3 b i (clause3 e l) x (λ o q. omega (arith, ((names e).three l x.name q).0, v.restrict_listed o)))
-        (each P u4 r5 x (at_op l.op output 4 b i (clause4 e b l) x (λ o q. of_rho l.name2 (v.sent_listed o) x.name ((names e).four b l x.name q).short.asked))
-        (each P u5 r6 x (at_op l.op input 5 b i (clause5 e b l) x (λ o q.
+        else_each P u3 r4 x (at_op l.op restriction 3 b i (clause3 e l) x (λ o q. omega (arith, ((names e).three l x.name q).0, v.restrict_listed o)))
+        (else_each P u4 r5 x (at_op l.op output 4 b i (clause4 e b l) x (λ o q. of_rho l.name2 (v.sent_listed o) x.name ((names e).four b l x.name q).short.asked))
+        (else_each P u5 r6 x (at_op l.op input 5 b i (clause5 e b l) x (λ o q.
         let f = (names e).five b l x.name q in
         of_kap b f.member inside (of_rho l.name1 (v.input_listed o) f.member f.inside) x.name f.short.asked))
-        (each P u6 r7 x (at_op l.op input 6 b i (clause6 e (box_count m) b l) x (λ o q.
+        (else_each P u6 r7 x (at_op l.op input 6 b i (clause6 e (box_count m) b l) x (λ o q.
         let f = (names e).six (box_count m) b l x.name q in
         of_kap f.k f.c f.asked.box (shown f.k f.asked.box f.c f.asked.partner) x.name f.short.asked))
-        (each P u7 r8 x (at_op l.op expose 7 b i (clause7 e b l) x (λ o q.
+        (else_each P u7 r8 x (at_op l.op expose 7 b i (clause7 e b l) x (λ o q.
         let own : x.name ≡ l.name1 → x.name < length m.kinds = λ p. omega (arith, p, v.expose_listed o) in
         ⊎_elim (λ p. own p.0) (λ p. ⊎_elim (λ r. own r.0) (λ r.
         of_rho r.1.member (v.expose_type o r.1.member r.1.name r.1.inside) x.name r.1.short.asked) p.1) ((names e).seven b l x.name q)))
-        (each P u8 u9 x (at_op l.op hide 8 b i (clause8 e b l) x (λ o q. of_rho l.name1 (v.hide_listed o) x.name ((names e).eight b l x.name q).asked))
-        (at_op l.op unhide 9 b i (clause9 e b l) x (λ o q. of_rho l.name1 (v.unhide_listed o) x.name ((names e).nine b l x.name q).asked)))))))
+        (else_each P u8 u9 x (at_op l.op hide 8 b i (clause8 e b l) x (λ o q. of_turned l.name1 (e.shown b) (e.hidden b) x.name (v.hide_listed o) ((names e).eight b l x.name q)))
+        (at_op l.op unhide 9 b i (clause9 e b l) x (λ o q. of_turned l.name1 (e.hidden b) (e.shown b) x.name (v.unhide_listed o) ((names e).nine b l x.name q))))))))
         z
 
   name_listed : (x : Broken) → first_broken m e ≡ some x → x.name < length m.kinds
   unfolding first_broken name_broken box_broken
   name_listed x z =
-      each (λ y. y.name < length m.kinds) (first_below (length m.kinds) (name_broken m e)) (first_below (box_count m) (box_broken m e)) x
+      else_each (λ y. y.name < length m.kinds) (first_below (length m.kinds) (name_broken m e)) (first_below (box_count m) (box_broken m e)) x
       (λ q. let f = first_found (name_broken m e) (length m.kinds) x q in
       omega (arith, f.1, ((names e).one m.kinds f.0 x.name (at_some 1 0 f.0 (clause1 e m.kinds f.0) x f.2)).0))
       (λ q. let f = first_found (box_broken m e) (box_count m) x q in
       let b = f.0 in
-      each (λ y. y.name < length m.kinds) (first_below (site_count (box_at m b)) (site_broken m e b)) (first_below (line_count (box_at m b)) (line_broken m e b)) x
+      else_each (λ y. y.name < length m.kinds) (first_below (site_count (box_at m b)) (site_broken m e b)) (first_below (line_count (box_at m b)) (line_broken m e b)) x
       (λ r. let g = first_found (site_broken m e b) (site_count (box_at m b)) x r in site-listed b f.1 g.0 g.1 x g.2)
       (λ r. let g = first_found (line_broken m e b) (line_count (box_at m b)) x r in line-listed b f.1 g.0 g.1 x g.2) f.2) z
 

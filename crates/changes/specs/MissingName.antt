@@ -58,11 +58,12 @@ module _ (e : Estimate) where
       has (e.rho l.name1) l.name1 and has (e.shown b) l.name1
       and for_each l.type (λ g. old_within (e.rho g) (e.eps b l.name1))
 
+  -- 8 and 9 ask for what they ask for since change request 2, so that this file speaks of its own request alone; Hiding has those of before
   unfoldable pub old_clause8 : ℕ → Line → Bool
-  old_clause8 b l = old_within (e.rho l.name1) (e.hidden b)
+  old_clause8 b l = for_each (e.rho l.name1) (λ a. has (e.shown b) a implies has (e.hidden b) a)
 
   unfoldable pub old_clause9 : ℕ → Line → Bool
-  old_clause9 b l = old_within (e.rho l.name1) (e.shown b)
+  old_clause9 b l = for_each (e.rho l.name1) (λ a. has (e.hidden b) a implies has (e.shown b) a)
 
 -- a line of the operation that a clause speaks of breaks it where its test fails
 unfoldable pub old_asks : Line → ℕ → Bool → OldBroken → Option OldBroken
@@ -166,6 +167,10 @@ pub record FirstAt (s : ℕ) (Missing : ℕ → Type 0) (Met : ℕ → Type 0) :
   pub short : Missing member
   pub lower : (n : ℕ) → n < member → T (has s n) → Met n
 
+-- x is in a and in d and not in c, and every lower name of a that is in d is in c
+abbrev pub LowestOf : ℕ → ℕ → ℕ → ℕ → Type 0
+LowestOf a d c x = FirstAt a (λ n. (x ≡ n) × T (has d n) × (T (has c n) → ⊥)) (λ n. T (has d n) → T (has c n))
+
 -- one of two sets is asked for first: it is short, or it is met and the second is short
 abbrev pub Then : Type 0 → Type 0 → Type 0 → Type 0
 Then Short Met Next = Short ⊎ (Met × Next)
@@ -210,8 +215,8 @@ module _ (e : Estimate) where
         → Then ((x ≡ l.name1) × (T (has (e.rho l.name1) l.name1) → ⊥)) (T (has (e.rho l.name1) l.name1))
         (Then ((x ≡ l.name1) × (T (has (e.shown b) l.name1) → ⊥)) (T (has (e.shown b) l.name1))
         (FirstAt l.type (λ g. Lowest (e.rho g) (e.eps b l.name1) x) (λ g. Within (e.rho g) (e.eps b l.name1))))
-    pub eight : (b : ℕ) (l : Line) (x : ℕ) → clause8 e b l ≡ some x → Lowest (e.rho l.name1) (e.hidden b) x
-    pub nine : (b : ℕ) (l : Line) (x : ℕ) → clause9 e b l ≡ some x → Lowest (e.rho l.name1) (e.shown b) x
+    pub eight : (b : ℕ) (l : Line) (x : ℕ) → clause8 e b l ≡ some x → LowestOf (e.rho l.name1) (e.shown b) (e.hidden b) x
+    pub nine : (b : ℕ) (l : Line) (x : ℕ) → clause9 e b l ≡ some x → LowestOf (e.rho l.name1) (e.hidden b) (e.shown b) x
 
 -- ---- what the request says
 

@@ -11,7 +11,7 @@ use borrow.Author.Rules.{rules}
 use lib.Dec.{T}
 use lib.ListN.{length, get_or, take, length-take}
 use lib.Seq.{get_or-take}
-use Rattle.definitions.specs.Bounded.{◌is◌, any_below}
+use Rattle.definitions.specs.Bounded.{◌implies◌, ◌is◌, any_below}
 use Rattle.definitions.specs.Sets.{has, for_each, within}
 use Rattle.definitions.specs.Model as paper
 use Rattle.definitions.specs.Estimate.{Estimate, estimate_of}
@@ -26,7 +26,7 @@ use Rattle.sets.specs.Ascending.{LowestOf}
 use Rattle.sets.specs.Names.{NamesOnly}
 use Rattle.sets.proofs.Each.{some_left}
 use Rattle.sets.proofs.Walk.{EachLeft, each_start, each_turn, each_stop, each_end}
-use Rattle.clauses.specs.Known.{LineOfNames}
+use Rattle.clauses.specs.Known.{LineOfNames, MayTurn}
 use Rattle.clauses.proofs.Members.{left_62, names_rho, rho_names, box_62, names_62, second_62, box_there, boxed}
 use Rattle.sharing.specs.declared.Gathered.{Gathered}
 use Rattle.sharing.specs.Shared.{Least, all_sent_in, sent_by_others, shared_on, may_send, GatheredOf}
@@ -39,21 +39,30 @@ use Rattle.clause_walk.specs.Lines.{OpsOfNames, ListBelow, NotExpose, NamesPass,
 pub ops_62 : (ops : List ℕ) (o s : ℕ) → OpsOfNames ops → o < 16 → s ≡ get_or ops o 0 → NamesOnly s
 ops_62 ops o s f l e = rw e (f.each o l)
 
+-- sets within what may be turned: each of their names that is in the one set is in the other
+turn_pass : (e : Estimate) (s from to x y m : ℕ) → x ≡ from → y ≡ to → MayTurn x y m → T (for_each s (λ g. within (e.rho g) m))
+    → T (for_each s (λ g. for_each (e.rho g) (λ a. has from a implies has to a)))
+turn_pass e s from to x y m ex ey k t =
+    rw (← ex, ← ey)
+    ((for_each_iff s (λ g. for_each (e.rho g) (λ a. has x a implies has y a))).1 (λ g h u.
+    (for_each_iff (e.rho g) (λ a. has x a implies has y a)).1 (λ a l v.
+    of_true (sym (k.members a l) ∙ true_of (has m a) ((within_iff (e.rho g) m).0 ((for_each_iff s (λ g. within (e.rho g) m)).0 t g h u) a l v)))))
+
 module _ (e : Estimate) (b : ℕ) (ops : List ℕ) where
   pub names_no : ShowsNames e b ops false
   names_no = record { shows = λ t. absurd t }
 
-  pub names_yes : (x3 x6 x7 x8 shown hidden : ℕ) (r3 r6 rs r7 r : Bool) → x3 ≡ get_or ops 3 0 → x6 ≡ get_or ops 6 0 → x7 ≡ get_or ops 7 0 → x8 ≡ get_or ops 8 0
-      → shown ≡ e.shown b → hidden ≡ e.hidden b
+  pub names_yes : (x3 x6 x7 x8 shown hidden hides unhides : ℕ) (r3 r6 rs r7 r : Bool) → x3 ≡ get_or ops 3 0 → x6 ≡ get_or ops 6 0 → x7 ≡ get_or ops 7 0 → x8 ≡ get_or ops 8 0
+      → shown ≡ e.shown b → hidden ≡ e.hidden b → MayTurn shown hidden hides → MayTurn hidden shown unhides
       → r3 ≡ for_each x3 (λ n. has (e.rho n) n) → r3 ≡ true → r6 ≡ for_each x6 (λ n. has (e.rho n) n) → r6 ≡ true → rs ≡ within x6 shown → rs ≡ true
-      → r7 ≡ for_each x7 (λ g. within (e.rho g) hidden) → r7 ≡ true → r ≡ for_each x8 (λ g. within (e.rho g) shown) → ShowsNames e b ops r
-  names_yes x3 x6 x7 x8 shown hidden r3 r6 rs r7 r e3 e6 e7 e8 es eh f3 t3 f6 t6 fs ts f7 t7 f8 = record {
+      → r7 ≡ for_each x7 (λ g. within (e.rho g) hides) → r7 ≡ true → r ≡ for_each x8 (λ g. within (e.rho g) unhides) → ShowsNames e b ops r
+  names_yes x3 x6 x7 x8 shown hidden hides unhides r3 r6 rs r7 r e3 e6 e7 e8 es eh mh mu f3 t3 f6 t6 fs ts f7 t7 f8 = record {
     shows = λ t. record {
       restricted = subst (λ (x : ℕ). T (for_each x (λ n. has (e.rho n) n))) e3 (of_true (sym f3 ∙ t3));
       exposed = subst (λ (x : ℕ). T (for_each x (λ n. has (e.rho n) n))) e6 (of_true (sym f6 ∙ t6));
       shown = rw (sym e6, sym es) (of_true (sym fs ∙ ts));
-      hides = rw (sym e7, sym eh) (of_true (sym f7 ∙ t7));
-      unhides = rw (sym e8, sym es) (of_true (sym f8 ∙ true_of r t));
+      hides = rw (sym e7) (turn_pass e x7 (e.shown b) (e.hidden b) shown hidden hides es eh mh (of_true (sym f7 ∙ t7)));
+      unhides = rw (sym e8) (turn_pass e x8 (e.hidden b) (e.shown b) hidden shown unhides eh es mu (of_true (sym f8 ∙ true_of r t)));
     };
   }
 
@@ -204,10 +213,8 @@ module _ (model estimate : List ℕ) (k n c : ℕ) (ops sent listed : List ℕ) 
               shown = (within_iff (get_or ops 6 0) ((estimate_of estimate).shown b)).0 names.shown l.name1 first o;
               type = simp sets at t;
             });
-        eight = λ z. (clause8_iff (estimate_of estimate) b l).1 ((within_iff ((estimate_of estimate).rho l.name1) ((estimate_of estimate).hidden b)).0
-            ((for_each_iff (get_or ops 7 0) (λ p. within ((estimate_of estimate).rho p) ((estimate_of estimate).hidden b))).0 names.hides l.name1 first (in_ops 7 (omega arith) z)));
-        nine = λ z. (clause9_iff (estimate_of estimate) b l).1 ((within_iff ((estimate_of estimate).rho l.name1) ((estimate_of estimate).shown b)).0
-            ((for_each_iff (get_or ops 8 0) (λ p. within ((estimate_of estimate).rho p) ((estimate_of estimate).shown b))).0 names.unhides l.name1 first (in_ops 8 (omega arith) z)));
+        eight = λ z. let t = names.hides in (clause8_iff (estimate_of estimate) b l).1 ((simp sets at t) l.name1 first (in_ops 7 (omega arith) z));
+        nine = λ z. let t = names.unhides in (clause9_iff (estimate_of estimate) b l).1 ((simp sets at t) l.name1 first (in_ops 8 (omega arith) z));
       }
 
     pub lines_yes : (named outs r : Bool) → ShowsNames (estimate_of estimate) b ops named → named ≡ true

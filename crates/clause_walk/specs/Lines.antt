@@ -1,6 +1,7 @@
 -- What one walk over a box's lines may show: that no line breaks a clause. Assumes nothing.
 use Rattle.std.specs.Prelude.{◌≡◌, Bool, List, ℕ, ◌<◌, T, length, get_or}
 use Rattle.std.proofs.Math.Option.{none}
+use Rattle.definitions.specs.Bounded.{◌implies◌}
 use Rattle.definitions.specs.Sets.{has, for_each, within}
 use Rattle.definitions.specs.Model.{Line, restriction, output, input, expose, hide, unhide}
 use Rattle.definitions.specs.Estimate.{Estimate}
@@ -29,8 +30,8 @@ module _ (e : Estimate) where
     pub restricted : T (for_each (get_or ops 3 0) (λ n. has (e.rho n) n))
     pub exposed : T (for_each (get_or ops 6 0) (λ n. has (e.rho n) n))
     pub shown : T (within (get_or ops 6 0) (e.shown b))
-    pub hides : T (for_each (get_or ops 7 0) (λ p. within (e.rho p) (e.hidden b)))
-    pub unhides : T (for_each (get_or ops 8 0) (λ p. within (e.rho p) (e.shown b)))
+    pub hides : T (for_each (get_or ops 7 0) (λ p. for_each (e.rho p) (λ a. has (e.shown b) a implies has (e.hidden b) a)))
+    pub unhides : T (for_each (get_or ops 8 0) (λ p. for_each (e.rho p) (λ a. has (e.hidden b) a implies has (e.shown b) a)))
 
   pub record ShowsNames (b : ℕ) (ops : List ℕ) (r : Bool) : Type 0 where
     pub shows : T r → NamesPass b ops

@@ -28,12 +28,14 @@ fn names_pass(e: Estimate<'_>, b: usize, ops: &[u64; 16]) -> bool
     let image = e.image;
     let shown = e.shown(b);
     let hidden = e.hidden(b);
+    let hides = clauses::may_turn(shown, hidden);
+    let unhides = clauses::may_turn(hidden, shown);
     let exposed = ops[Op::Expose as usize];
     clauses::own_within(image, ops[Op::Restriction as usize])
         && clauses::own_within(image, exposed)
         && sets::is_subset(exposed, shown)
-        && clauses::types_within(image, ops[Op::Hide as usize], hidden)
-        && clauses::types_within(image, ops[Op::Unhide as usize], shown)
+        && clauses::types_within(image, ops[Op::Hide as usize], hides)
+        && clauses::types_within(image, ops[Op::Unhide as usize], unhides)
 }
 
 // Clause 4, channel by channel: on are the channels.

@@ -1,8 +1,8 @@
 -- What is known of a line of a model that has been read. Assumes nothing.
 use Rattle.std.specs.Prelude.{◌≡◌, Bool, ℕ, ◌<◌, T}
 use Rattle.std.proofs.Math.Option.{Option, none}
-use Rattle.definitions.specs.Bounded.{◌is◌, ◌isnt◌, when, or_else}
-use Rattle.definitions.specs.Sets.{absent}
+use Rattle.definitions.specs.Bounded.{◌implies◌, ◌is◌, ◌isnt◌, when, or_else}
+use Rattle.definitions.specs.Sets.{has, absent}
 use Rattle.definitions.specs.Model.{Site, Line}
 use Rattle.definitions.specs.Estimate.{Estimate}
 use Rattle.sets.specs.Names.{NamesOnly}
@@ -16,6 +16,10 @@ pub record LineOfNames (l : Line) : Type 0 where
 -- a clause that a test may show met: where it passes no name is missing
 pub record MetWhere (t : Bool) (o : Option ℕ) : Type 0 where
   pub met : T t → o ≡ none
+
+-- the names that a line may turn, by hide from shown to hidden and by unhide back: where one is in `from` it is in `to`
+pub record MayTurn (from to s : ℕ) : Type 0 where
+  pub members : (n : ℕ) → n < 64 → has s n ≡ (has from n implies has to n)
 
 -- the subject of a starting site in shown(b) or hidden(b), as its byte says
 unfoldable pub on_wall : Estimate → ℕ → Site → Option ℕ

@@ -14,7 +14,7 @@ ghost use Rattle.sets.specs.Names.{NamesOnly};
 ghost use Rattle.subsets.specs.Within.{within_in};
 ghost use Rattle.estimate.specs.Known.{BoxOfNames};
 ghost use Rattle.clauses.specs.Each.{ShortAtEach};
-ghost use Rattle.clauses.specs.Known.{LineOfNames, on_wall};
+ghost use Rattle.clauses.specs.Known.{LineOfNames, MayTurn, on_wall};
 
 use records::{Line, Site};
 use sets::{Ascending, NameNo};
@@ -142,26 +142,38 @@ pub fn clause7(estimate: &[u8], b: usize, l: NamedLine) -> Result<(), NameNo>
     types_missing(estimate, l.line.names, estimate::eps(estimate, b, n))
 }
 
-// 8 and 9 are two clauses of the paper: one function would take the set, and serve two contracts.
+// The names that a line may turn, by hide from shown to hidden and by unhide back: those that are in `to` or not in `from`.
+#[tactic(auto, using(crate::proofs::Tests::turns))]
+pub fn may_turn(from: u64, to: u64) -> u64
+    ensures { MayTurn from to result }
+{
+    to | !from
+}
 
-// 8. hide p: rho(p) within hidden(b).
-#[tactic(auto, using(crate::proofs::Members::shorts), unfolding(definitions::specs::Clauses::clause8))]
+// 8 and 9 are two clauses of the paper: one function would take the two sets, and serve two contracts.
+
+// 8. hide p: each a in rho(p) that is in shown(b) is in hidden(b).
+#[tactic(auto, using(crate::proofs::Tests::turns))]
 pub fn clause8(estimate: &[u8], b: usize, l: Line) -> Result<(), NameNo>
     requires there { 512 * (2 + 2 * b) ≤ length estimate.now }
     requires name { l.name1.0 < 62 }
     ensures { within_in result ≡ clauses.clause8 (estimate_of estimate.now) b (line_in l) }
 {
     let p = estimate::rho(estimate, l.name1);
-    subsets::missing(p, estimate::hidden(estimate, b))
+    let shown = estimate::shown(estimate, b);
+    let hidden = estimate::hidden(estimate, b);
+    subsets::missing(p, may_turn(shown, hidden))
 }
 
-// 9. unhide p: rho(p) within shown(b).
-#[tactic(auto, using(crate::proofs::Members::shorts), unfolding(definitions::specs::Clauses::clause9))]
+// 9. unhide p: each a in rho(p) that is in hidden(b) is in shown(b).
+#[tactic(auto, using(crate::proofs::Tests::turns))]
 pub fn clause9(estimate: &[u8], b: usize, l: Line) -> Result<(), NameNo>
     requires there { 512 * (2 + 2 * b) ≤ length estimate.now }
     requires name { l.name1.0 < 62 }
     ensures { within_in result ≡ clauses.clause9 (estimate_of estimate.now) b (line_in l) }
 {
     let p = estimate::rho(estimate, l.name1);
-    subsets::missing(p, estimate::shown(estimate, b))
+    let shown = estimate::shown(estimate, b);
+    let hidden = estimate::hidden(estimate, b);
+    subsets::missing(p, may_turn(hidden, shown))
 }

@@ -75,13 +75,13 @@ module _ (e : Estimate) where
     pub shown : T (has (e.shown b) l.name1)
     pub type : Each l.type (λ g. Within (e.rho g) (e.eps b l.name1))
 
-  -- 8. Hide p: rho(p) within hidden(b).
+  -- 8. Hide p: each a in rho(p) that is in shown(b) is in hidden(b).
   abbrev pub Clause8 : ℕ → Line → Type 0
-  Clause8 b l = Within (e.rho l.name1) (e.hidden b)
+  Clause8 b l = Each (e.rho l.name1) (λ a. T (has (e.shown b) a) → T (has (e.hidden b) a))
 
-  -- 9. Unhide p: rho(p) within shown(b).
+  -- 9. Unhide p: each a in rho(p) that is in hidden(b) is in shown(b).
   abbrev pub Clause9 : ℕ → Line → Type 0
-  Clause9 b l = Within (e.rho l.name1) (e.shown b)
+  Clause9 b l = Each (e.rho l.name1) (λ a. T (has (e.hidden b) a) → T (has (e.shown b) a))
 
   -- no name is missing exactly when the clause is met
   pub clause1_iff : (kinds : List ℕ) (n : ℕ) → (clause1 e kinds n ≡ none) ↔ Clause1 kinds n

@@ -63,13 +63,13 @@ module _ (e : Estimate) where
       (or_else (absent (e.shown b) l.name1)
       (first_short l.type (λ g. missing (e.rho g) (e.eps b l.name1))))
 
-  -- 8. hide p: rho(p) within hidden(b)
+  -- 8. hide p: each a in rho(p) that is in shown(b) is in hidden(b)
   unfoldable pub clause8 : ℕ → Line → Option ℕ
-  clause8 b l = missing (e.rho l.name1) (e.hidden b)
+  clause8 b l = first_short (e.rho l.name1) (λ a. when (has (e.shown b) a) (absent (e.hidden b) a))
 
-  -- 9. unhide p: rho(p) within shown(b)
+  -- 9. unhide p: each a in rho(p) that is in hidden(b) is in shown(b)
   unfoldable pub clause9 : ℕ → Line → Option ℕ
-  clause9 b l = missing (e.rho l.name1) (e.shown b)
+  clause9 b l = first_short (e.rho l.name1) (λ a. when (has (e.hidden b) a) (absent (e.shown b) a))
 
 -- ---- the first broken clause
 

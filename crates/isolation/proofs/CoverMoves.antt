@@ -187,10 +187,10 @@ module _ {m : Model} {e : Estimate} {b : ℕ} {r : List ℕ} (k : Here m e b r) 
       (λ g a p. rw q (((met t h).exposed o).type g a p _ (number_low (hold g)) (value_in_lem t h g ((valid t h).expose_type o g a p) ((reach t h).expose_reach o g a p)))) in
       rw d.3 (push_site_lem (made_name t h n l ((met t h).exposed o).self) (omega (arith, d.1)) _ (site-length v 0 hold type) site)
 
-  -- a site turned by hide or unhide: its subject is where its new flag says
+  -- a site turned by hide or unhide: its subject, which is where its old flag says, is where its new flag says
   turn_move_lem : (op before after t : ℕ) (s : List ℕ) → turn_move m.kinds (box_at m b) r op before after t ≡ made s
-      → (t < threads r → (line_here m b r t).op ≡ op → after ≡ 0 → T (has (e.shown b) (number1 m b r t)))
-      → (t < threads r → (line_here m b r t).op ≡ op → after ≢ 0 → T (has (e.hidden b) (number1 m b r t)))
+      → (t < threads r → (line_here m b r t).op ≡ op → (before ≢ 0 → T (has (e.hidden b) (number1 m b r t))) → after ≡ 0 → T (has (e.shown b) (number1 m b r t)))
+      → (t < threads r → (line_here m b r t).op ≡ op → (before ≡ 0 → T (has (e.shown b) (number1 m b r t))) → after ≢ 0 → T (has (e.hidden b) (number1 m b r t)))
       → Covered e b s
   turn_move_lem op before after t s z f g =
       let d = turn-made m.kinds (box_at m b) r op before after t s z in
@@ -200,21 +200,24 @@ module _ {m : Model} {e : Estimate} {b : ℕ} {r : List ℕ} (k : Here m e b r) 
       let found = d.1.1 in
       let c = put-sites here t h (onward m.kinds (box_at m b) r t) (onward_length t h) in
       let size = ((site_iff m k.last (site r i)).0 (k.fits.sites_fit.live i found.live)).size in
+      let old = k.covers.sites_covered i found.live in
+      let was_hidden : before ≢ 0 → T (has (e.hidden b) (number1 m b r t)) = λ n. rw found.subject_is at (old.hidden (λ q. n (sym found.flag_is ∙ q))) in
+      let was_shown : before ≡ 0 → T (has (e.shown b) (number1 m b r t)) = λ n. rw found.subject_is at (old.shown (found.flag_is ∙ n)) in
       rw d.1.2 (put-site (put_onward t h) i (omega (arith, found.live)) _ (length-set (site r i) 1 after ∙ size)
-      (turn_covered e b (site r i) after size (rw found.subject_is (f h o)) (rw found.subject_is (g h o)) (k.covers.sites_covered i found.live)))
+      (turn_covered e b (site r i) after size (rw found.subject_is (f h o was_hidden)) (rw found.subject_is (g h o was_shown)) old))
 
-  -- clause 8
+  -- clause 8: the site is shown before, so its subject is in shown(b)
   hide_covered : (t : ℕ) (s : List ℕ) → turn_move m.kinds (box_at m b) r op_hide 0 1 t ≡ made s → Covered e b s
   hide_covered t s z =
-      turn_move_lem op_hide 0 1 t s z (λ h o n. absurd (omega arith))
-      (λ h o _. (met t h).hid o (number1 m b r t) (number_low _) (value1_in t h ((valid t h).hide_listed o) ((reach t h).hide_reach o)))
+      turn_move_lem op_hide 0 1 t s z (λ h o w n. absurd (omega arith))
+      (λ h o w _. (met t h).hid o (number1 m b r t) (number_low _) (value1_in t h ((valid t h).hide_listed o) ((reach t h).hide_reach o)) (w refl))
 
-  -- clause 9
+  -- clause 9: the site is hidden before, so its subject is in hidden(b)
   unhide_covered : (t : ℕ) (s : List ℕ) → turn_move m.kinds (box_at m b) r op_unhide 1 0 t ≡ made s → Covered e b s
   unhide_covered t s z =
       turn_move_lem op_unhide 1 0 t s z
-      (λ h o _. (met t h).unhid o (number1 m b r t) (number_low _) (value1_in t h ((valid t h).unhide_listed o) ((reach t h).unhide_reach o)))
-      (λ h o n. absurd (n refl))
+      (λ h o w _. (met t h).unhid o (number1 m b r t) (number_low _) (value1_in t h ((valid t h).unhide_listed o) ((reach t h).unhide_reach o)) (w (omega arith)))
+      (λ h o w n. absurd (n refl))
 
   -- clauses 4 and 5: what is sent is in kap at the channel, and from there in rho of what receives
   intra_covered : (t u : ℕ) (s : List ℕ) → intra_move m.kinds (box_at m b) r t u ≡ made s → Covered e b s

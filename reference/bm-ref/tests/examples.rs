@@ -14,13 +14,13 @@ fn examples() -> PathBuf {
 /// The folders that hold a model.
 fn folders() -> Vec<PathBuf> {
     let mut folders = Vec::new();
-    for group in ["k", "virus"] {
+    for group in ["hide", "k", "virus"] {
         for entry in fs::read_dir(examples().join(group)).unwrap() {
             folders.push(entry.unwrap().path());
         }
     }
     folders.sort();
-    assert_eq!(folders.len(), 7);
+    assert_eq!(folders.len(), 9);
     folders
 }
 
@@ -54,7 +54,7 @@ fn expected_lines() {
 fn expected_answers() {
     let mut lists = 0;
     for folder in folders() {
-        for name in ["intra", "inter", "refused", "attack"] {
+        for name in ["intra", "inter", "refused", "attack", "hide"] {
             let moves = format!("{name}.moves.txt");
             if folder.join(&moves).exists() {
                 let answers = printed(&folder, &["run", "model.blk", &moves]);
@@ -63,7 +63,7 @@ fn expected_answers() {
             }
         }
     }
-    assert_eq!(lists, 5);
+    assert_eq!(lists, 6);
 }
 
 #[test]
@@ -79,6 +79,19 @@ fn virus_estimates_are_least() {
         assert_eq!(said, answer);
         assert_eq!(said, read(&folder.join("shut-off-1.txt")));
     }
+}
+
+/// A box has a line to hide another box's site: the estimate that is given is
+/// the least one, and the one that breaks clause 8 is for the same model.
+#[test]
+fn hide_estimates_are_for_one_model() {
+    let out = fresh_folder("hide");
+    let hide = examples().join("hide");
+    let read = |path: &str| fs::read(hide.join(path)).unwrap();
+    let model = hide.join("of-another-box/model.blk");
+    printed(&out, &["least", model.to_str().unwrap(), "e"]);
+    assert_eq!(fs::read(out.join("e")).unwrap(), read("of-another-box/estimate.blk"));
+    assert_eq!(read("clause-8-1-4/model.blk"), read("of-another-box/model.blk"));
 }
 
 /// The example in the description of the text form is K with E.

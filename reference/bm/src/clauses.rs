@@ -124,8 +124,8 @@ impl Checker<'_> {
                 member(7, name, sets.shown)?;
                 ty.into_iter().try_for_each(|g| within(7, rho(g), sets.eps(name)))
             }
-            Line::Hide { on, .. } => within(8, rho(on), sets.hidden),
-            Line::Unhide { on, .. } => within(9, rho(on), sets.shown),
+            Line::Hide { on, .. } => within(8, rho(on).meet(sets.shown), sets.hidden),
+            Line::Unhide { on, .. } => within(9, rho(on).meet(sets.hidden), sets.shown),
         }
     }
 

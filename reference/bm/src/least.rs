@@ -63,11 +63,13 @@ fn add_line(model: &Model, estimate: &mut Estimate, box_no: usize, line: &Line) 
         }
         Line::Hide { on, .. } => {
             let names = estimate.rho(on);
-            add(&mut estimate.boxes[box_no].hidden, names);
+            let sets = &mut estimate.boxes[box_no];
+            add(&mut sets.hidden, names.meet(sets.shown));
         }
         Line::Unhide { on, .. } => {
             let names = estimate.rho(on);
-            add(&mut estimate.boxes[box_no].shown, names);
+            let sets = &mut estimate.boxes[box_no];
+            add(&mut sets.shown, names.meet(sets.hidden));
         }
     }
 }

@@ -74,7 +74,7 @@ fn lists(folder: &Path) -> Vec<(Vec<Move>, Vec<u32>)> {
 #[test]
 fn verdicts_of_the_examples() {
     let folders = folders();
-    assert_eq!(folders.len(), 11);
+    assert_eq!(folders.len(), 13);
     for folder in folders {
         let (model, estimate) = images(&folder);
         let expected = fs::read_to_string(folder.join("expected.txt")).unwrap();
@@ -115,7 +115,7 @@ fn runs_of_the_examples_are_their_steps() {
             runs += 1;
         }
     }
-    assert_eq!(runs, 8);
+    assert_eq!(runs, 9);
 }
 
 #[test]

@@ -258,9 +258,10 @@ impl DamagedPair {
         });
     }
 
-    /// A member fewer in a set that some line asks for; rare operations come as often as others.
+    /// A member fewer in a set that some line asks for; rare operations come as often as others. The name that a line hides or shows
+    /// stands then, mostly, in the other one of shown and hidden names.
     fn take_asked_member(&mut self) {
-        let operation = [3, 4, 5, 5, 6, 7, 8, 8][self.rng.below(8)];
+        let operation = [3, 4, 5, 5, 6, 7, 8, 8, 8][self.rng.below(9)];
         let Some((box_no, record)) = self.line_of(operation) else { return };
         let (block, word) = asked_set(box_no, &record);
         let (names, free) = (self.names(), self.free());
@@ -268,7 +269,9 @@ impl DamagedPair {
         let Some(block) = blocks.get_mut(block) else { return };
         let mut place = Place { rng: &mut self.rng, names, free, block };
         if operation >= 7 && place.rng.percent(60) {
-            place.take(word, NameNo(record[1] % MAX_NAMES as u8));
+            let name = NameNo(record[1] % MAX_NAMES as u8);
+            place.take(word, name);
+            place.put(SHOWN_WORD + HIDDEN_WORD - word, name);
         } else {
             place.take_any(word);
         }
@@ -328,6 +331,10 @@ impl Place<'_> {
 
     fn take(&mut self, word: usize, member: NameNo) {
         put_word(self.block, word, NameSet(self.word(word)).without(member).0);
+    }
+
+    fn put(&mut self, word: usize, member: NameNo) {
+        put_word(self.block, word, NameSet(self.word(word)).with(member).0);
     }
 
     /// A listed name.

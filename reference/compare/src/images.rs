@@ -6,12 +6,13 @@ use bm::cases::rng::Rng;
 use bm::cases::walk;
 use bm::cases::{self, Case};
 use bm::state::STATE_WORDS;
-use bm::{Broken, Estimate, Model, Move, ShutOff, Verdict, calls};
+use bm::{Estimate, Model, Move, ShutOff, Verdict, calls};
 
 use crate::damage::DamagedPair;
 use crate::lent::Lent;
 use crate::report::{Part, Report};
-use crate::{names, packing, proved};
+use crate::tally::Verdicts;
+use crate::{hiding, names, packing, proved};
 
 const GENERATED: Part = Part { name: "generated", number: 2 };
 const DAMAGED: Part = Part { name: "damaged", number: 3 };
@@ -49,20 +50,30 @@ fn compare_pair(report: &mut Report, model: &[u8], estimate: &[u8], h: u32) -> (
     (checked, asked)
 }
 
-/// Holds the missing name to the sets that its clause asks for, and notes where another order would give another.
-fn note_name(report: &mut Report, model: &[u8], estimate: &[u8], broken: Broken) {
+/// Notes of an estimate that was checked what clauses 8 and 9 would answer if they asked for more. Where a clause is broken, holds the
+/// missing name to the sets that it asks for, and notes where another order would give another.
+fn note_clauses(report: &mut Report, model: &[u8], estimate: &[u8], verdict: Verdict) {
+    let broken = match verdict {
+        Verdict::Accepted => None,
+        Verdict::Broken(broken) => Some(broken),
+        Verdict::RefusedModel(_) | Verdict::RefusedEstimate(_) => return,
+    };
     let model = Model::read(model).expect("a model that was checked");
     let estimate = Estimate::read(&model, estimate).expect("an estimate that was checked");
+    let Verdicts { hiding, names, .. } = &mut report.tally.verdicts;
+    if let Some(at) = hiding::outcome(&model, &estimate, broken) {
+        hiding.add(at);
+    }
+    let Some(broken) = broken else { return };
     let (name, standings) = names::standing(&model, &estimate, broken);
     assert_eq!(name, Some(broken.missing), "the Rust implementation's own name");
-    standings.into_iter().for_each(|at| report.tally.verdicts.names.add(at));
+    standings.into_iter().for_each(|at| names.add(at));
 }
 
-/// Compares the calls on two images, and notes how the missing name stands where a clause is broken.
-pub fn compare_names(report: &mut Report, model: &[u8], estimate: &[u8]) {
-    if let (Verdict::Broken(broken), _) = compare_pair(report, model, estimate, 0) {
-        note_name(report, model, estimate, broken);
-    }
+/// Compares the calls on two images, and notes what the clauses say of them.
+pub fn compare_clauses(report: &mut Report, model: &[u8], estimate: &[u8]) {
+    let (verdict, _) = compare_pair(report, model, estimate, 0);
+    note_clauses(report, model, estimate, verdict);
 }
 
 /// The state with which a case begins: its own words, or what a start writes.
@@ -135,9 +146,7 @@ fn compare_damaged(report: &mut Report) {
         let pair = DamagedPair::damaged(rng, &pooled.case.model, &pooled.case.estimate);
         let (checked, asked) = compare_pair(report, &pair.model, &pair.estimate, h);
         report.tally.verdicts.note(checked, asked);
-        if let Verdict::Broken(broken) = checked {
-            note_name(report, &pair.model, &pair.estimate, broken);
-        }
+        note_clauses(report, &pair.model, &pair.estimate, checked);
         let mut lent = Lent::new(pooled.words.clone());
         let _ = lent.step(&pair.model, mv, report);
         let _ = lent.run(&pair.model, &[mv, mv], 2, report);

@@ -7,6 +7,7 @@
 
 mod checks;
 mod damage;
+mod hiding;
 mod images;
 mod lent;
 mod made_alone;

@@ -53,8 +53,8 @@ fn asked(model: &Model, estimate: &Estimate, broken: Broken) -> Vec<Asked> {
             let types = ty.into_iter().map(|g| rho(g).minus(sets.eps(name)));
             Asked::in_order([own(name, rho(name)), own(name, sets.shown)].into_iter().chain(types))
         }
-        Line::Hide { on, .. } => Asked::in_order([rho(on).minus(sets.hidden)]),
-        Line::Unhide { on, .. } => Asked::in_order([rho(on).minus(sets.shown)]),
+        Line::Hide { on, .. } => Asked::in_order([rho(on).meet(sets.shown).minus(sets.hidden)]),
+        Line::Unhide { on, .. } => Asked::in_order([rho(on).meet(sets.hidden).minus(sets.shown)]),
         Line::Nil | Line::Parallel { .. } | Line::Replicate { .. } => Vec::new(),
     }
 }

@@ -1,7 +1,9 @@
-//! Estimates in which several sets are short at once, so that the order in which a clause asks for them decides which name is missing.
+//! Estimates in which several sets are short at once, so that the order in which a clause asks for them decides which name is missing;
+//! and such in which the names that a line may hide or show are shown, hidden, both or neither.
 
 use bm::cases::random::{self, Size};
 use bm::cases::rng::Rng;
+use bm::cases::walls;
 use bm::estimate::BoxSets;
 use bm::model::Line;
 use bm::{Estimate, Model, NameNo, NameSet};
@@ -11,7 +13,7 @@ use crate::report::{Part, Report};
 
 const SHORT: Part = Part { name: "short estimates", number: 7 };
 /// How many estimates of a model are tried.
-const ESTIMATES: usize = 4;
+const ESTIMATES: usize = 6;
 
 fn without_some(rng: &mut Rng, set: NameSet, most: usize) -> NameSet {
     let members: Vec<NameNo> = set.into_iter().collect();
@@ -83,14 +85,16 @@ pub fn compare(report: &mut Report) {
         let image = draft.image();
         let model = Model::read(&image).expect("a model that is drawn");
         let accepted = random::accepted(&mut rng, &model);
+        let wide = walls::widened(&mut rng, &model, &accepted);
         for _ in 0..ESTIMATES {
             let mut estimate = accepted.clone();
-            match rng.below(4) {
+            match rng.below(6) {
                 0 => thinned(&mut rng, &model, &mut estimate),
                 1 => exposed(&mut rng, &model, &mut estimate),
+                2 | 3 => estimate = walls::redrawn(&mut rng, &model, &wide),
                 _ => sent_by_others(&mut rng, &model, &mut estimate),
             }
-            images::compare_names(report, &image, &estimate.image(model.boxes().len()));
+            images::compare_clauses(report, &image, &estimate.image(model.boxes().len()));
         }
     }
 }

@@ -7,6 +7,7 @@ use bm::names::{Held, MAX_STAMP, NameNo};
 use bm::step::move_kind;
 use bm::{Cause, Move, Refusal, ShutOff, Verdict};
 
+use crate::hiding::OUTCOMES;
 use crate::names::STANDINGS;
 use crate::runs::LENDINGS;
 
@@ -72,6 +73,8 @@ pub struct Verdicts {
     question: Counts,
     /// Broken clauses where another order than the document's would give another name.
     pub names: Counts,
+    /// Answers that would be others if clauses 8 and 9 asked for more.
+    pub hiding: Counts,
 }
 
 impl Verdicts {
@@ -83,6 +86,7 @@ impl Verdicts {
             of_estimate: Counts::numbered("estimate refused", 1..=5),
             question: Counts::named("shut off", ["yes", "no", "no such box"]),
             names: Counts::named("missing name, and", STANDINGS),
+            hiding: Counts::named("with 8 and 9 for all of rho(p)", OUTCOMES),
         }
     }
 
@@ -236,7 +240,7 @@ impl Tally {
             &self.calls;
         let Runs { answered, passed_over, made: made_in_runs, lent } = &self.runs;
         let mut counts = self.verdicts.verdicts().to_vec();
-        counts.extend([&self.verdicts.names, &self.verdicts.question]);
+        counts.extend([&self.verdicts.names, &self.verdicts.hiding, &self.verdicts.question]);
         counts.extend([starts, steps, made, inter, stamps, largest]);
         counts.extend([spoilt, odd, changed]);
         counts.extend([answered, passed_over, made_in_runs, lent]);
@@ -272,12 +276,12 @@ mod tests {
     /// A tally in which each kind came often enough, and no verdict too often.
     fn sound() -> Tally {
         let mut tally = Tally::new();
-        let Verdicts { accepted, clauses, of_model, of_estimate, question, names } =
+        let Verdicts { accepted, clauses, of_model, of_estimate, question, names, hiding } =
             &mut tally.verdicts;
         let Calls { starts, steps, made, inter, stamps, largest, spoilt, odd, changed } =
             &mut tally.calls;
         let others = [clauses, of_model, of_estimate, question, names, starts, steps, made];
-        let more = [inter, stamps, largest, spoilt, odd, changed];
+        let more = [hiding, inter, stamps, largest, spoilt, odd, changed];
         others.into_iter().chain(more).for_each(|counts| fill(counts, FEWEST));
         fill(accepted, 5 * FEWEST);
         fill_runs(&mut tally.runs, FEWEST);

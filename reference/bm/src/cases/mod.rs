@@ -9,6 +9,7 @@ pub mod random;
 pub mod rng;
 pub mod spoil;
 pub mod walk;
+pub mod walls;
 
 use crate::estimate::Estimate;
 use crate::model::Model;
