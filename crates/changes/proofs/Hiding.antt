@@ -163,14 +163,14 @@ module _ (m : Model) (e : Estimate) where
   unfolding name_broken placed ◌is◌
   name_at n x = tried true 1 0 n (clause1 e m.kinds n) x (λ name. refl)
 
-  site-at : (b i : ℕ) (x : Broken) → site_broken m e b i ≡ some x → Stands (1 ∷ b ∷ 0 ∷ i ∷ 2 ∷ []) x
+  site_at_lem : (b i : ℕ) (x : Broken) → site_broken m e b i ≡ some x → Stands (1 ∷ b ∷ 0 ∷ i ∷ 2 ∷ []) x
   unfolding site_broken placed ◌is◌
-  site-at b i x = tried true 2 b i (clause2 e b (site_at (box_at m b) i)) x (λ name. refl)
+  site_at_lem b i x = tried true 2 b i (clause2 e b (site_at (box_at m b) i)) x (λ name. refl)
 
   module _ (eight nine : Estimate → ℕ → Line → Option ℕ) where
-    line-at : (b i : ℕ) (x : Broken) → line_broken_by eight nine m e b i ≡ some x → Stands (1 ∷ b ∷ 1 ∷ i ∷ []) x
+    line_at_lem : (b i : ℕ) (x : Broken) → line_broken_by eight nine m e b i ≡ some x → Stands (1 ∷ b ∷ 1 ∷ i ∷ []) x
     unfolding line_broken_by
-    line-at b i x =
+    line_at_lem b i x =
         let l = line_at (box_at m b) i in
         let S : Broken → Type 0 = Stands (1 ∷ b ∷ 1 ∷ i ∷ []) in
         let asks : (n op : ℕ) (o : Option ℕ) → 3 ≤ n → when (l.op is op) (broken_at n b i o) ≡ some x → S x =
@@ -184,8 +184,8 @@ module _ (m : Model) (e : Estimate) where
     unfolding box_broken_by
     box_at_lem b x =
         let S : Broken → Type 0 = Stands (1 ∷ b ∷ []) in
-        else_each S _ _ x (found S (site_broken m e b) (site_count (box_at m b)) x (λ i z. part (1 ∷ b ∷ []) (0 ∷ i ∷ 2 ∷ []) x (site-at b i x z)))
-        (found S (line_broken_by eight nine m e b) (line_count (box_at m b)) x (λ i z. part (1 ∷ b ∷ []) (1 ∷ i ∷ []) x (line-at b i x z)))
+        else_each S _ _ x (found S (site_broken m e b) (site_count (box_at m b)) x (λ i z. part (1 ∷ b ∷ []) (0 ∷ i ∷ 2 ∷ []) x (site_at_lem b i x z)))
+        (found S (line_broken_by eight nine m e b) (line_count (box_at m b)) x (λ i z. part (1 ∷ b ∷ []) (1 ∷ i ∷ []) x (line_at_lem b i x z)))
 
   -- the order; x is what is found first
   order : (x : Broken) → first_broken m e ≡ some x → InOrder m e x
@@ -193,13 +193,20 @@ module _ (m : Model) (e : Estimate) where
   order x z = record {
     names = λ n y h q. is_ahead y (ahead_left _ _ y (ahead_first (name_broken m e) n y (ahead_self _ y q)
         (λ j w l r. in_turn (name_at j w r) (name_at n y q) l) (length m.kinds) h));
-    sites = λ b i y g h q. let s = site-at b i y q in
+    sites = λ b i y g h q. let s = site_at_lem b i y q in
         in_box_lem b y s g (ahead_left _ _ y (ahead_first (site_broken m e b) i y (ahead_self _ y q)
-        (λ j w l r. in_turn (site-at b j w r) s l) (site_count (box_at m b)) h));
-    lines = λ b i y g h q. let s = line-at clause8 clause9 b i y q in
-        in_box_lem b y s g (ahead_right _ _ y (λ w. found (λ v. NoLater v y) (site_broken m e b) (site_count (box_at m b)) w
-        (λ j r. earlier (site-at b j w r) s (λ _ _. inr (refl, inr (refl, inl (omega arith))))))
-        (ahead_first (line_broken m e b) i y (ahead_self _ y q) (λ j w l r. in_turn (line-at clause8 clause9 b j w r) s l) (line_count (box_at m b)) h));
+        (λ j w l r. in_turn (site_at_lem b j w r) s l) (site_count (box_at m b)) h));
+    lines = λ b i y g h q. in_line_lem b i y (line_at_lem clause8 clause9 b i y q) g h (ahead_self _ y q);
+    inputs = λ b i y g h q.
+        let l = line_at (box_at m b) i in
+        let s = tried (l.op is input) 6 b i (clause6 e (box_count m) b l) y (λ name. line-place 6 b i name (omega arith)) q in
+        let before : (n op : ℕ) (o : Option ℕ) → 3 ≤ n → n < 6 → (w : Broken) → when (l.op is op) (broken_at n b i o) ≡ some w → NoLater w y =
+        λ n op o h k w z.
+        earlier (tried (l.op is op) n b i o w (λ name. line-place n b i name h) z) s (λ _ _. inr (refl, inr (refl, inr (refl, inr (refl, inl k))))) in
+        in_line_lem b i y s g h
+        (ahead_right _ _ y (before 3 restriction (clause3 e l) (omega arith) (omega arith))
+        (ahead_right _ _ y (before 4 output (clause4 e b l) (omega arith) (omega arith))
+        (ahead_right _ _ y (before 5 input (clause5 e b l) (omega arith) (omega arith)) (ahead_left _ _ y (ahead_self _ y q)))));
   }
     where
       is_ahead : (y : Broken) → Ahead (first_broken m e) y → NoLater x y
@@ -211,6 +218,15 @@ module _ (m : Model) (e : Estimate) where
           is_ahead y (ahead_right _ _ y
           (λ w. found (λ v. NoLater v y) (name_broken m e) (length m.kinds) w (λ n r. earlier (name_at n w r) s (λ _ _. inl (omega arith))))
           (ahead_first (box_broken m e) b y a (λ c w l r. earlier (box_at_lem clause8 clause9 c w r) s (λ _ _. inr (refl, inl l))) (box_count m) g))
+
+      -- at line i: the sites and the lower lines of its box come before too
+      in_line_lem : (b i : ℕ) (y : Broken) {ps : List ℕ} → Stands (1 ∷ b ∷ 1 ∷ i ∷ ps) y → b < box_count m → i < line_count (box_at m b) → Ahead (line_broken m e b i) y
+          → NoLater x y
+      in_line_lem b i y s g h a =
+          in_box_lem b y s g (ahead_right _ _ y
+          (λ w. found (λ v. NoLater v y) (site_broken m e b) (site_count (box_at m b)) w
+          (λ j r. earlier (site_at_lem b j w r) s (λ _ _. inr (refl, inr (refl, inl (omega arith))))))
+          (ahead_first (line_broken m e b) i y a (λ j w l r. in_turn (line_at_lem clause8 clause9 b j w r) s l) (line_count (box_at m b)) h))
 
   -- clauses 3 to 7 are the same, and 9 comes after 8
   line_eased : (b i : ℕ) → Eased (line_broken_by whole_clause8 whole_clause9 m e b i) (line_broken_by clause8 clause9 m e b i)
@@ -234,7 +250,7 @@ module _ (m : Model) (e : Estimate) where
       (first_eased (box_broken_by whole_clause8 whole_clause9 m e) (box_broken_by clause8 clause9 m e)
       (λ b. after (first_below (site_count (box_at m b)) (site_broken m e b)) _ _
       (first_eased (line_broken_by whole_clause8 whole_clause9 m e b) (line_broken_by clause8 clause9 m e b) (line_eased b)
-      (λ i j x y l z w. in_turn (line-at whole_clause8 whole_clause9 b i x z) (line-at clause8 clause9 b j y w) l) (line_count (box_at m b))))
+      (λ i j x y l z w. in_turn (line_at_lem whole_clause8 whole_clause9 b i x z) (line_at_lem clause8 clause9 b j y w) l) (line_count (box_at m b))))
       (λ b c x y l z w. earlier (box_at_lem whole_clause8 whole_clause9 b x z) (box_at_lem clause8 clause9 c y w) (λ _ _. inr (refl, inl l))) (box_count m))
 
 -- ---- the order is one of places and names: two that come no later than each other are the same

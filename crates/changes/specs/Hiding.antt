@@ -79,11 +79,14 @@ Since x (breaks y) = NoLater x y
 Since x (refused_model r) = ⊥
 Since x (refused_estimate r) = ⊥
 
--- this is the order in which the checker goes: the first broken clause comes no later than what is broken at any name, site or line
+-- this is the order in which the checker goes: the first broken clause comes no later than what is broken at any name, site or line; at an
+-- input, where the first of 5 and 6 that is broken is named, no later than 6
 pub record InOrder (m : Model) (e : Estimate) (x : Broken) : Type 0 where
   pub names : (n : ℕ) (y : Broken) → n < length m.kinds → name_broken m e n ≡ some y → NoLater x y
   pub sites : (b i : ℕ) (y : Broken) → b < box_count m → i < site_count (box_at m b) → site_broken m e b i ≡ some y → NoLater x y
   pub lines : (b i : ℕ) (y : Broken) → b < box_count m → i < line_count (box_at m b) → line_broken m e b i ≡ some y → NoLater x y
+  pub inputs : (b i : ℕ) (y : Broken) → b < box_count m → i < line_count (box_at m b)
+      → (let l = line_at (box_at m b) i in when (l.op is input) (broken_at 6 b i (clause6 e (box_count m) b l)) ≡ some y) → NoLater x y
 
 -- ---- what the request says
 

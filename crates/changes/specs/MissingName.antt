@@ -58,7 +58,7 @@ module _ (e : Estimate) where
       has (e.rho l.name1) l.name1 and has (e.shown b) l.name1
       and for_each l.type (λ g. old_within (e.rho g) (e.eps b l.name1))
 
-  -- 8 and 9 ask for what they ask for since change request 2, so that this file speaks of its own request alone; Hiding has those of before
+  -- 8 and 9 are those of change request 2, as tests: this file speaks of request 1 alone. Hiding has the ones before request 2
   unfoldable pub old_clause8 : ℕ → Line → Bool
   old_clause8 b l = for_each (e.rho l.name1) (λ a. has (e.shown b) a implies has (e.hidden b) a)
 

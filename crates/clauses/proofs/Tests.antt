@@ -1,4 +1,5 @@
--- The clauses of several tests, each on what called functions answered; and the first one short, as a test. Assumes nothing.
+-- The clauses of several tests, each on what called functions answered; 8 and 9, by what may be turned; and the first one short, as a test.
+-- Assumes nothing.
 use mathlib.Core.Path.{◌≡◌, refl, sym, ap, ap₂, ◌∙◌}
 use mathlib.Core.Bool.{Bool, true, false, not}
 use mathlib.Core.Logic.{◌↔◌}

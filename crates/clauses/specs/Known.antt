@@ -1,4 +1,4 @@
--- What is known of a line of a model that has been read. Assumes nothing.
+-- What is known of a line of a model that has been read, and what its clauses ask. Assumes nothing.
 use Rattle.std.specs.Prelude.{◌≡◌, Bool, ℕ, ◌<◌, T}
 use Rattle.std.proofs.Math.Option.{Option, none}
 use Rattle.definitions.specs.Bounded.{◌implies◌, ◌is◌, ◌isnt◌, when, or_else}

@@ -1,4 +1,4 @@
--- Each clause as a statement about members, as document 01 has it: no name is missing exactly when it holds, and no clause is the first
+-- Each clause as a statement about members, as document 01 has it, 8 and 9 as change request 2 has them: no name is missing exactly when it holds, and no clause is the first
 -- broken one exactly when all hold everywhere. Assumes nothing.
 use mathlib.Core.Path.{◌≡◌, refl}
 use mathlib.Core.Bool.{true}

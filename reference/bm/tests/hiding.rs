@@ -1,5 +1,5 @@
-//! Clauses 8 and 9: what they ask for, and what becomes of the answers that
-//! come where they ask for all of rho(p).
+//! Clauses 8 and 9: what they ask for, and what becomes of the answers of
+//! clauses that ask for all of rho(p).
 
 mod plain;
 
@@ -45,8 +45,9 @@ fn a_site_of_another_box_is_not_asked_for() {
     assert_eq!(said(&model, &both), None);
 }
 
-/// The lowest name counts that the clause asks for. Of names 0 to 3, which y
-/// may be, 0 is first neither shown nor hidden, and 1 is both.
+/// The lowest name counts that the clause asks for. y may be names 0 to 3. In
+/// the first four cases 0 is neither shown nor hidden and 1 is both; in the
+/// others 0 is on the wall.
 #[test]
 fn the_lowest_name_that_is_asked_for() {
     let told = |word: &str, shown: &[u8], hidden: &[u8]| {

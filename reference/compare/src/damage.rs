@@ -258,8 +258,8 @@ impl DamagedPair {
         });
     }
 
-    /// A member fewer in a set that some line asks for; rare operations come as often as others. The name that a line hides or shows
-    /// stands then, mostly, in the other one of shown and hidden names.
+    /// A member fewer in a set that some line asks for. The operation is drawn first, so that rare ones come too; unhide most often, since
+    /// clause 9 is broken most seldom. The name that a line hides or shows stands then, mostly, in the other one of shown and hidden names.
     fn take_asked_member(&mut self) {
         let operation = [3, 4, 5, 5, 6, 7, 8, 8, 8][self.rng.below(9)];
         let Some((box_no, record)) = self.line_of(operation) else { return };

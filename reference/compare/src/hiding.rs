@@ -1,4 +1,4 @@
-//! Answers that would be others if clauses 8 and 9 asked for all of rho(p), and not only for the sites of the box.
+//! Answers that would be others if clauses 8 and 9 asked for all of rho(p), and not only for the names on the box's wall.
 
 use bm::model::Line;
 use bm::{Broken, Estimate, Model};
@@ -13,7 +13,7 @@ pub const OUTCOMES: [&str; 6] = [
     "9 with a lower name",
 ];
 
-/// The first line that hides or shows some name of rho(p) that is not in hidden or shown.
+/// The first line that hides a name of rho(p) which hidden(b) lacks, or shows again one which shown(b) lacks.
 fn first_short(model: &Model, estimate: &Estimate) -> Option<Broken> {
     model.boxes().iter().zip(&estimate.boxes).enumerate().find_map(|(box_no, (def, sets))| {
         def.lines().iter().enumerate().find_map(|(record, line)| {
