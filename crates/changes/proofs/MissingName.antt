@@ -26,7 +26,7 @@ use Rattle.definitions.proofs.ReadEstimate.{estimate_fits}
 use Rattle.definitions.proofs.Sets.{meets_iff, short_iff, short_some, absent_iff, absent-some, missing_iff, missing-some}
 use Rattle.definitions.proofs.Faults.{else_some, else_each, when_iff, when-some}
 use Rattle.definitions.proofs.Clauses.{Within, Share, sets, clause1_iff, clause2_iff, clause3_iff, clause4_iff, clause5_iff, clause6_iff, clause7_iff, clause8_iff, clause9_iff}
-use Rattle.changes.specs.MissingName.{old_within, OldBroken, old_broken, old_clause1, old_clause2, old_clause3, old_clause4, old_clause5, old_clause6, old_clause7, old_clause8, old_clause9, old_asks, old_line_broken, old_name_broken, old_site_broken, old_box_broken, old_first_broken, OldVerdict, old_verdict_of, old_after_estimate, old_after_model, old_check, OldReply, old_reply, old_is_shut_off, old_nobody, old_question, without_name, verdict_without, reply_without, Lowest, FirstAt, LowestOf, Then, Asked, Before, FirstPartner, Names, MissingName}
+use Rattle.changes.specs.MissingName.{old_within, OldBroken, old_broken, old_clause1, old_clause2, old_clause3, old_clause4, old_clause5, old_clause6, old_clause7, old_clause8, old_clause9, old_asks, old_line_broken, old_name_broken, old_site_broken, old_box_broken, old_first_broken, OldVerdict, old_verdict_of, old_after_estimate, old_after_model, old_check, OldReply, old_reply, old_is_shut_off, old_nobody, old_question, without_name, verdict_without, reply_without, Lowest, FirstAt, LowestLacking, Then, Asked, Before, FirstPartner, Names, MissingName}
 
 -- ---- a clause's test passed exactly when no name is missing
 
@@ -217,8 +217,8 @@ first-at s f x Missing Met g h z =
     record { member = y.0; name = y.1; inside = y.2; short = g y.0 y.3; lower = λ n l t. h n (y.4 n l t) }
 
 -- clauses 8 and 9
-lowest_of_lem : (a d c x : ℕ) → first_short a (λ n. when (has d n) (absent c n)) ≡ some x → LowestOf a d c x
-lowest_of_lem a d c x z =
+lowest_lacking : (a d c x : ℕ) → first_short a (λ n. when (has d n) (absent c n)) ≡ some x → LowestLacking a d c x
+lowest_lacking a d c x z =
     first-at a (λ n. when (has d n) (absent c n)) x (λ n. (x ≡ n) × T (has d n) × (T (has c n) → ⊥)) (λ n. T (has d n) → T (has c n))
     (λ n q. let w = when-some (has d n) (absent c n) x q in let y = absent-some c n x w.1 in (y.0, w.0, y.1))
     (λ n q t. (absent_iff c n).0 ((when_iff (has d n) (absent c n)).0 q t)) z
@@ -368,8 +368,8 @@ module _ (e : Estimate) where
         (λ a. lowest (e.kap b a) (e.rho l.name2) x) (λ a. (missing_iff (e.kap b a) (e.rho l.name2)).0) z;
     six = λ boxes b l x. clause_6 b l x boxes;
     seven = clause_7;
-    eight = λ b l x. lowest_of_lem (e.rho l.name1) (e.shown b) (e.hidden b) x;
-    nine = λ b l x. lowest_of_lem (e.rho l.name1) (e.hidden b) (e.shown b) x;
+    eight = λ b l x. lowest_lacking (e.rho l.name1) (e.shown b) (e.hidden b) x;
+    nine = λ b l x. lowest_lacking (e.rho l.name1) (e.hidden b) (e.shown b) x;
   }
 
 -- ---- the name is one of the model's
@@ -389,7 +389,7 @@ module _ (m : Model) (e : Estimate) (valid : Valid m) (rho : (n : ℕ) → n < 6
   of_kap : (b n : ℕ) → b < box_count m → n < length m.kinds → (a : ℕ) → T (has (e.kap b n) a) → a < length m.kinds
   of_kap b n g h = kap b g n (omega (arith, valid.names))
 
-  of_turned : (n d c x : ℕ) → n < length m.kinds → LowestOf (e.rho n) d c x → x < length m.kinds
+  of_turned : (n d c x : ℕ) → n < length m.kinds → LowestLacking (e.rho n) d c x → x < length m.kinds
   of_turned n d c x h f = of_rho n h x (rw f.short.0 f.inside)
 
   -- a name that is asked for where a line has an operation

@@ -168,8 +168,8 @@ pub record FirstAt (s : ℕ) (Missing : ℕ → Type 0) (Met : ℕ → Type 0) :
   pub lower : (n : ℕ) → n < member → T (has s n) → Met n
 
 -- x is in a and in d and not in c, and every lower name of a that is in d is in c
-abbrev pub LowestOf : ℕ → ℕ → ℕ → ℕ → Type 0
-LowestOf a d c x = FirstAt a (λ n. (x ≡ n) × T (has d n) × (T (has c n) → ⊥)) (λ n. T (has d n) → T (has c n))
+abbrev pub LowestLacking : ℕ → ℕ → ℕ → ℕ → Type 0
+LowestLacking a d c x = FirstAt a (λ n. (x ≡ n) × T (has d n) × (T (has c n) → ⊥)) (λ n. T (has d n) → T (has c n))
 
 -- one of two sets is asked for first: it is short, or it is met and the second is short
 abbrev pub Then : Type 0 → Type 0 → Type 0 → Type 0
@@ -215,8 +215,8 @@ module _ (e : Estimate) where
         → Then ((x ≡ l.name1) × (T (has (e.rho l.name1) l.name1) → ⊥)) (T (has (e.rho l.name1) l.name1))
         (Then ((x ≡ l.name1) × (T (has (e.shown b) l.name1) → ⊥)) (T (has (e.shown b) l.name1))
         (FirstAt l.type (λ g. Lowest (e.rho g) (e.eps b l.name1) x) (λ g. Within (e.rho g) (e.eps b l.name1))))
-    pub eight : (b : ℕ) (l : Line) (x : ℕ) → clause8 e b l ≡ some x → LowestOf (e.rho l.name1) (e.shown b) (e.hidden b) x
-    pub nine : (b : ℕ) (l : Line) (x : ℕ) → clause9 e b l ≡ some x → LowestOf (e.rho l.name1) (e.hidden b) (e.shown b) x
+    pub eight : (b : ℕ) (l : Line) (x : ℕ) → clause8 e b l ≡ some x → LowestLacking (e.rho l.name1) (e.shown b) (e.hidden b) x
+    pub nine : (b : ℕ) (l : Line) (x : ℕ) → clause9 e b l ≡ some x → LowestLacking (e.rho l.name1) (e.hidden b) (e.shown b) x
 
 -- ---- what the request says
 
