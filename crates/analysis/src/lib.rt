@@ -47,8 +47,9 @@ impl From<NotAccepted> for NoReply {
     }
 }
 
-// Both images, where neither is refused. No clause is tried.
+// Both images, where neither is refused. No clause is tried. In place in its callers: an answer of a call so long is moved by memcpy.
 #[tactic(auto, using(crate::proofs::Replies::verdicts))]
+#[inline(always)]
 fn both_read<'m, 'e>(model: &'m [u8], estimate: &'e [u8]) -> Result<Both<'m, 'e>, NotAccepted>
     ensures verdict { verdict_in result ≡ clauses.read_both model.now estimate.now }
     ensures model { IfOk result (λ b. b.model.image.now ≡ model.now) }
@@ -58,7 +59,7 @@ fn both_read<'m, 'e>(model: &'m [u8], estimate: &'e [u8]) -> Result<Both<'m, 'e>
     let boxes = model.layout.boxes;
     estimate::read(estimate, model.layout.names, boxes).map_err(NotAccepted::RefusedEstimate)?;
     Ok(Both {
-        model,
+        model: model.by_fields(),
         estimate: Estimate {
             image: estimate,
             boxes,

@@ -34,7 +34,7 @@ impl<'m, 'e> Checking<'m, 'e> {
         requires listed { i < count_of (block_of self.now.model.image.now (sites_block self.now.model.image.now b)) }
         ensures { found_in result ≡ site_broken (model_of self.now.model.image.now) (estimate_of self.now.tables.estimate.image.now) b i }
     {
-        let block = records::inside::block(self.model.image, self.model.layout.each[b].at);
+        let block = records::inside::block(self.model.image, self.model.layout.each[b].at as usize);
         let s = records::inside::site(block, i);
         lines::broken_at(clauses::clause2(self.tables.estimate.image, b, s), 2, b, i)
     }
@@ -45,7 +45,7 @@ impl<'m, 'e> Checking<'m, 'e> {
         requires { b < boxes_of self.now.model.image.now }
         ensures { found_in result ≡ first_below (count_of (block_of self.now.model.image.now (sites_block self.now.model.image.now b))) (site_broken (model_of self.now.model.image.now) (estimate_of self.now.tables.estimate.image.now) b) }
     {
-        for i in 0..self.model.layout.each[b].sites {
+        for i in 0..self.model.layout.each[b].sites as usize {
             self.site(b, i)?;
         }
         Ok(())
@@ -62,8 +62,8 @@ impl<'m, 'e> Checking<'m, 'e> {
         NamedLines {
             lines: Lines {
                 image: self.model.image,
-                k: place.at,
-                n: place.lines,
+                k: place.at as usize,
+                n: place.lines as usize,
             },
         }
     }

@@ -193,6 +193,9 @@ module _ (image : List ℕ) (boxes b k : ℕ) (each : List BoxPlace) (p : FrameS
       let e : line_total image k ≡ lines_of image b = ap (line_total image) p.here ∙ total_lines image b in
       omega (arith, e, p.all, lines_most image (right image f) b (omega (arith, p.all)))
 
+  pub sites_few : blocks_fault image ≡ none → b < boxes → count_of (block_of image k) ≤ 16
+  sites_few f l = subst (λ (i : ℕ). count_of (block_of image i) ≤ 16) (sym p.here) (((right image f).box b (omega (arith, p.all))).sites.most)
+
   pub frame_more : (r : BoxPlace) (n : ℕ) → b < boxes → BoxPlaceOf image k r → n ≡ line_blocks 4 image (k + 1)
       → FrameSoFar image boxes (b + 1) (k + (1 + n)) (set each b r)
   frame_more r n l t e = record {
@@ -261,6 +264,7 @@ pub ruleset layouts = (
   frame_start,
   box_small,
   total_few,
+  sites_few,
   frame_more,
   frame_end,
 )

@@ -3,6 +3,7 @@
 // Bounds of indices and counts stand in the clauses: a type for each bound would be taken apart at every use.
 ghost use Rattle.std.specs.Prelude.{◌≡◌, ◌≤◌};
 ghost use Rattle.std.proofs.Math.Option.{none};
+ghost use Rattle.definitions.specs.Words.{block_of, count_of};
 ghost use Rattle.definitions.specs.ReadModel.{blocks_fault};
 ghost use Rattle.layouts.specs.Layouts.{line_total, KindInserted, KindSetsOf, BoxPlaceOf};
 ghost use Rattle.layouts.specs.LayoutOf.{FrameOf, LayoutOf};
@@ -15,12 +16,14 @@ use records::names::insert_if;
 use records::{Lines, NameKind};
 use sets::NameNo;
 
-// Where a box stands: the block of its sites, how many sites and lines it has, and the names that its lines bind.
+// Where a box stands: the block of its sites, how many sites and lines it has, and the names that its lines bind. The numbers are u16, so that the
+// eight places of a layout are 128 bytes, which are moved in place; what is longer is moved by a call of the C library's memcpy. They are read
+// by `as`: `usize::from` is a call, whose result each proof would have to be told.
 #[derive(Clone, Copy)]
 pub struct BoxPlace {
-    pub at: usize,
-    pub sites: usize,
-    pub lines: usize,
+    pub at: u16,
+    pub sites: u16,
+    pub lines: u16,
     pub bound: u64,
 }
 
@@ -100,12 +103,13 @@ const NOWHERE: BoxPlace = BoxPlace {
 fn box_place(blocks: Blocks<'_>, k: usize) -> BoxPlace
     requires block { k ≤ 99 }
     requires few { line_total blocks.image.now k ≤ 124 }
+    requires sites { count_of (block_of blocks.image.now k) ≤ 16 }
     ensures { BoxPlaceOf blocks.entry.image.now k result }
 {
     BoxPlace {
-        at: k,
-        sites: block_order::count(blocks, k),
-        lines: line_total(blocks, k),
+        at: k as u16,
+        sites: block_order::count(blocks, k) as u16,
+        lines: line_total(blocks, k) as u16,
         bound: 0,
     }
 }
@@ -146,8 +150,8 @@ pub fn layout_of<'a>(right: RightBlocks<'a>) -> Laid<'a>
     for place in &mut each[..frame.boxes] {
         let lines = Lines {
             image,
-            k: place.at,
-            n: place.lines,
+            k: place.at as usize,
+            n: place.lines as usize,
         };
         place.bound = box_runs::bound_by(lines);
     }

@@ -28,7 +28,11 @@ pub fn thread_line(model: &ReadModel<'_>, b: usize, r: &[u32; 1139], t: usize) -
     requires live { t < words.threads r.now }
     ensures { line_in result ≡ moves.thread_line (kinds_in model.now) (box_in model.now b) r.now t }
 {
-    records::inside::line(model.image, model.layout.each[b].at, state::line(r, t))
+    records::inside::line(
+        model.image,
+        model.layout.each[b].at as usize,
+        state::line(r, t),
+    )
 }
 
 // A box of a model with its record, which is in order: what the moves inside it are asked of.

@@ -18,6 +18,25 @@ pub struct ReadModel<'a> {
     pub ghost of: { LayoutOf image.now layout },
 }
 
+impl<'a> ReadModel<'a> {
+    // The same, moved field by field: as one value it is so long that a call of the C library's memcpy moves it.
+    #[inline(always)]
+    pub fn by_fields(self) -> ReadModel<'a>
+        ensures image { result.image ≡ self.entry.image }
+        ensures layout { result.layout ≡ self.entry.layout }
+    {
+        ReadModel {
+            image: self.image,
+            layout: Layout {
+                names: self.layout.names,
+                boxes: self.layout.boxes,
+                each: self.layout.each,
+                kinds: self.layout.kinds,
+            },
+        }
+    }
+}
+
 // A model image is read: the first refusal in the paper's order, or the model. The walk that may only say "all right" comes first.
 #[tactic(auto, using(crate::proofs::Models::models), unfolding(definitions::specs::ReadModel::read_model))]
 pub fn read(image: &[u8]) -> Result<ReadModel<'_>, Refusal>

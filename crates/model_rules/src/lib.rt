@@ -19,8 +19,18 @@ fn sites_pass(m: &Laid<'_>) -> Result<(), Refusal>
     let mut used = 0;
     for b in 0..m.layout.boxes {
         let place = m.layout.each[b];
-        box_runs::box_sites(m.image, b, place.at, place.sites, free, used)?;
-        used = sets::union(used, box_runs::subjects(m.image, place.at, place.sites));
+        box_runs::box_sites(
+            m.image,
+            b,
+            place.at as usize,
+            place.sites as usize,
+            free,
+            used,
+        )?;
+        used = sets::union(
+            used,
+            box_runs::subjects(m.image, place.at as usize, place.sites as usize),
+        );
     }
     Ok(())
 }
@@ -34,8 +44,8 @@ fn lines_pass(m: &Laid<'_>) -> Result<(), Refusal>
         let place = m.layout.each[b];
         let lines = Lines {
             image: m.image,
-            k: place.at,
-            n: place.lines,
+            k: place.at as usize,
+            n: place.lines as usize,
         };
         box_runs::box_lines(lines, b, kinds)?;
     }
@@ -49,8 +59,8 @@ fn trees_pass(m: &Laid<'_>) -> Result<(), Refusal>
         let place = m.layout.each[b];
         let lines = Lines {
             image: m.image,
-            k: place.at,
-            n: place.lines,
+            k: place.at as usize,
+            n: place.lines as usize,
         };
         box_runs::box_tree(lines, b)?;
     }
@@ -68,8 +78,8 @@ fn reach_pass(m: &Laid<'_>) -> Result<(), Refusal>
         let place = m.layout.each[b];
         let lines = Lines {
             image: m.image,
-            k: place.at,
-            n: place.lines,
+            k: place.at as usize,
+            n: place.lines as usize,
         };
         box_reach::box_reach(lines, b, free_or_unlisted, bound)?;
         bound = sets::union(bound, place.bound);

@@ -69,11 +69,17 @@ pub fn walk_boxes(image: &[u8], frame: Layout) -> Option<Layout>
     let mut seen: u64 = 0;
     let mut bad: u64 = 0;
     for place in &mut each[..frame.boxes] {
-        let s = walk_sites(image, place.at, place.sites, kinds.free, used);
+        let s = walk_sites(
+            image,
+            place.at as usize,
+            place.sites as usize,
+            kinds.free,
+            used,
+        );
         let lines = Lines {
             image,
-            k: place.at,
-            n: place.lines,
+            k: place.at as usize,
+            n: place.lines as usize,
         };
         let w = walk_lines(lines, &t, kinds, seen);
         place.bound = sets::intersection(w.names, complement(seen));

@@ -19,11 +19,11 @@ pub fn refusal<'a>(model: &'a [u8], state: &[u32], wrong: bool) -> Result<ReadMo
     ensures ready { IfOk result (λ m. Ready m state.now) }
     ensures image { IfOk result (λ m. m.image.now ≡ model.now) }
 {
-    let m = model::read(model)?;
+    let m = model::read(model)?.by_fields();
     Rule::Room.fault_if(wrong, 0, 0)?;
     let fits = state_rules::fits(&m, state);
     Rule::Spoilt.fault_if(!fits, 0, 0)?;
-    Ok(m)
+    Ok(m.by_fields())
 }
 
 // A move: the words are what it leaves, or as before where it is refused.
@@ -32,7 +32,7 @@ pub fn step(model: &[u8], state: &mut [u32], m: Move) -> Result<(), Refusal>
     ensures answer { answer_in result ≡ (calls.step model.now state.old (move_in m)).answer }
     ensures words { state.new ≡ (calls.step model.now state.old (move_in m)).words }
 {
-    let read = refusal(model, state, state.len() != 9112)?;
+    let read = refusal(model, state, state.len() != 9112)?.by_fields();
     turns::turn(&read, state, Turn::from(m))?;
     Ok(())
 }

@@ -69,7 +69,7 @@ fn run_each<T: Listed>(
     ensures words { state.new ≡ (calls.run model.now state.old (map T.as_move moves.now) answers.old).words }
     ensures answers { answers.new ≡ (calls.run model.now state.old (map T.as_move moves.now) answers.old).answers }
 {
-    let read = begin(model, state, moves.len(), answers.len())?;
+    let read = begin(model, state, moves.len(), answers.len())?.by_fields();
     // By an index: of a list that is written under `zip` the library does not say what it holds after.
     for (i, m) in moves.iter().enumerate() {
         answers[i] = number(turns::turn(&read, state, Turn::from(m.get())));

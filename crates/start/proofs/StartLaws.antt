@@ -140,7 +140,7 @@ module _ (x : List ℕ) (e : x ≡ zeros 10) where
 
 -- what an image that is not refused says of a box
 module _ (image : List ℕ) (layout : Layout) (read : read_model image ≡ none) (h : LayoutOf image layout) (b : ℕ) (q : b < layout.boxes) where
-  pub box_scaled : Fits w64 (b * 32)
+  pub box_scaled : Fits w64 (b * 16)
   box_scaled = record { fits = omega (arith, unrefused_room image layout read h b q) }
 
   pub count_fits : Fits w32 (get_or layout.each b nowhere).sites

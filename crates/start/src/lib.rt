@@ -53,8 +53,8 @@ fn start_record(m: &ReadModel<'_>, b: usize, r: &mut [u32; 1139])
     ensures { r.new ≡ start_record (box_at (model_of m.now.image.now) b) }
 {
     let place = m.layout.each[b];
-    let block = records::inside::block(m.image, place.at);
-    let count = place.sites;
+    let block = records::inside::block(m.image, place.at as usize);
+    let count = place.sites as usize;
     r[1] = 1;
     r[2] = count as u32;
     for i in 0..count {
@@ -85,7 +85,7 @@ pub fn start(model: &[u8], state: &mut [u32]) -> Result<(), Refusal>
     ensures answer { answer_in result ≡ (calls.start model.now state.old).answer }
     ensures words { state.new ≡ (calls.start model.now state.old).words }
 {
-    let m = model::read(model)?;
+    let m = model::read(model)?.by_fields();
     Rule::Room.fault_if(state.len() != 9112, 0, 0)?;
     write(&m, state);
     Ok(())

@@ -29,14 +29,14 @@ fn records_fit(m: &ReadModel<'_>, limits: &[Limit; 64], state: &[u32]) -> bool
         let r = state::record(state, b);
         let used = Lines {
             image: m.image,
-            k: place.at,
-            n: box_records::lines_used(r, place.lines),
+            k: place.at as usize,
+            n: box_records::lines_used(r, place.lines as usize),
         };
         box_reach::above(used, &mut up);
         let rules = Rules {
             limits,
             subjects,
-            lines: place.lines,
+            lines: place.lines as usize,
             up: &up,
         };
         if !box_records::record_fits(&rules, r) {

@@ -6,8 +6,10 @@ use Prim.Native.Nat.{ℕ, ◌-◌, ◌^◌, ◌<◌}
 use native.Mathlib.Nat.{lt_of_le_of_lt, lt_trans}
 use native.Mathlib.Omega.{arith}
 use borrow.Author.Tests.{eq-eqb}
-use lib.Bits.{bit_and, and_le_l}
-use lib.Count.{count_trailing_zeros}
+use mir.Syntax.{w8}
+use mir.Val.{Fits}
+use lib.Bits.{bit_and, bit_xor, and_le_l, xor_add_and}
+use lib.Count.{count_trailing_zeros, count_leading_zeros, trailing_le, leading_le}
 use Rattle.definitions.specs.Bounded.{◌and◌, some_if, when}
 use Rattle.definitions.specs.Sets.{has, absent, first_short, missing}
 use Rattle.definitions.proofs.Bounded.{of_true, each_none, first_stop}
@@ -48,6 +50,16 @@ module _ (a b : ℕ) (ha : a < 2 ^ 64) (hb : b < 2 ^ 64) where
   lack_some n p e =
       let d = bit_and a (2 ^ 64 - 1 - b) in
       ap some (e ∙ sym (lowest-word d (lt_of_le_of_lt (and_le_l a (2 ^ 64 - 1 - b)) ha))) ∙ lack_zeros (λ z. omega (arith, p, z))
+
+-- a count of zeros, and its distance from 63, fit a byte
+pub zeros_fit : (d : ℕ) → Fits w8 (count_trailing_zeros 64 d)
+zeros_fit d = record { fits = omega (arith, trailing_le 64 d) }
+
+pub distance_fits : (d : ℕ) → Fits w8 (bit_xor 63 (count_leading_zeros 64 d))
+distance_fits d = record { fits = omega (arith, xor_add_and 63 (count_leading_zeros 64 d), leading_le 64 d) }
+
+-- for an edit that puts one of the two into `missing`: its cast passes, so the answer is what fails
+pub ruleset casts = (zeros_fit, distance_fits)
 
 -- one name
 module _ (s n : ℕ) (t : Bool) (e : t ≡ has s n) where

@@ -15,6 +15,7 @@ pub fn absent(s: u64, n: NameNo) -> Result<(), NameNo>
 }
 
 // Every member of a is in b, or the lowest that is not.
+#[tactic(auto, using(crate::proofs::Lacking::casts))]
 pub fn missing(a: u64, b: u64) -> Result<(), NameNo>
     ensures { within_in result ≡ names.missing a b }
 {

@@ -125,8 +125,9 @@ impl<R: Print> Shown<'_, R> {
     }
 }
 
+// A byte below the digit 0 counts as 0, and one above the digit 9 by its distance from 0.
 fn digit(text: u8) -> u32 {
-    char::from(text).to_digit(10).unwrap_or(0)
+    u32::from(text.saturating_sub(b'0'))
 }
 
 // The numbers of a list of moves: one digit each, with a space or a line end after each.
@@ -146,11 +147,9 @@ fn play_text<R: Print>(rt: &R, image: &[u8], text: &[u8], stamp: u32) {
     let mut answers = [0; 32];
     let mut state = [0; 9112];
     read_numbers(text, &mut numbers);
-    let shown = Shown {
-        rt,
-        image,
-        boxes: model::read(image).map_or(0, |m| m.layout.boxes),
-    };
+    // A model that is refused with 6 to 9 has its blocks in order, and so a count of boxes: they are shown too.
+    let boxes = block_order::read(image).map_or(0, |right| layouts::frame_of(right).boxes);
+    let shown = Shown { rt, image, boxes };
     let all = 5 * count;
     shown.play(stamp, &mut state, &numbers[..all], &mut answers[..count]);
 }

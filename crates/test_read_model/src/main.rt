@@ -51,12 +51,12 @@ fn show_box<R: Print>(rt: &R, m: &ReadModel<'_>, b: usize)
 {
     let place = m.layout.each[b];
     let _ = println!(rt; "box {b} sites {} lines {}", place.sites, place.lines);
-    let block = records::inside::block(m.image, place.at);
-    show_sites(rt, b, block, place.sites);
+    let block = records::inside::block(m.image, place.at as usize);
+    show_sites(rt, b, block, place.sites as usize);
     let lines = Lines {
         image: m.image,
-        k: place.at,
-        n: place.lines,
+        k: place.at as usize,
+        n: place.lines as usize,
     };
     show_lines(rt, b, lines);
 }

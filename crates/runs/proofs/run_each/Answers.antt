@@ -1,14 +1,17 @@
 -- `runs::run_each` meets its contract. Assumes nothing.
-use mathlib.Core.Path.{sym, ap, ◌∙◌}
+use mathlib.Core.Path.{◌≡◌, sym, ap, ◌∙◌}
 use native.Mathlib.Omega.{arith}
 use lib.ListN.{length-map, set}
 use Rattle.std.proofs.lemmas.List.{get_or-map}
+use Rattle.lookups.specs.Ready.{Ready}
 use Rattle.runs.proofs.Fold.{no_move, moves_start, moves_turn}
 use Rattle.runs.proofs.run_each.Goals as goal
 
 pub loop-i-init : goal.loop-i-init
 loop-i-init g c =
-    moves_start _ _ _ _ _ (length-map c.args.moves.now g.T.Listed.as_move) _ c.in_ok-read.ensures.answer c.in_ok-read.ensures.ready c.in_ok-read.ensures.image
+    let e : c.by_fields-read.result.image.now ≡ c.in_ok-begin.field-0.image.now = ap (λ b. b.now) c.by_fields-read.ensures.image in
+    let ready : Ready c.by_fields-read.result c.args.state.now = record { fits = rw e c.in_ok-begin.ensures.ready.fits } in
+    moves_start _ _ _ _ _ (length-map c.args.moves.now g.T.Listed.as_move) c.by_fields-read.result c.in_ok-begin.ensures.answer ready (e ∙ c.in_ok-begin.ensures.image)
 
 pub loop-i-preserved : goal.loop-i-preserved
 loop-i-preserved g c =
