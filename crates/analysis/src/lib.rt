@@ -47,7 +47,7 @@ impl From<NotAccepted> for NoReply {
     }
 }
 
-// Both images, where neither is refused. No clause is tried. In place in its callers: an answer of a call so long is moved by memcpy.
+// Both images, where neither is refused. No clause is tried. In place in its callers: what a call answers is moved by memcpy where it is so long.
 #[tactic(auto, using(crate::proofs::Replies::verdicts))]
 #[inline(always)]
 fn both_read<'m, 'e>(model: &'m [u8], estimate: &'e [u8]) -> Result<Both<'m, 'e>, NotAccepted>
